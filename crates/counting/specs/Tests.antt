@@ -1,0 +1,55 @@
+-- What a test that holds says, and how to show that one holds.
+use mathlib.Core.Path.{_≡_, refl, sym}
+use mathlib.Core.Bool.{Bool, true, false, _&&_, _||_, not}
+use Prim.Native.Nat.{ℕ}
+use native.Mathlib.Omega.{arith}
+
+pub no-both : {b : Bool} → b ≡ true → b ≡ false → ⊥
+no-both p q = let z : _≡_ {A = ℕ} 0 1 = cc in omega arith
+
+-- both halves of a test that holds
+pub both : (a : Bool) {b : Bool} → (a && b) ≡ true → (a ≡ true) × (b ≡ true)
+both true h = (refl, h)
+both false h = absurd (no-both h refl)
+
+pub and-both : {a b : Bool} → a ≡ true → b ≡ true → (a && b) ≡ true
+and-both p q = rw (p, q) refl
+
+pub and-no-right : (a : Bool) {b : Bool} → a ≡ true → (a && b) ≡ false → b ≡ false
+and-no-right true e h = h
+and-no-right false e h = absurd (no-both e refl)
+
+-- a test by cases
+pub by-cases : (a : Bool) {P : Type 0} → (a ≡ true → P) → (a ≡ false → P) → P
+by-cases true yes· no· = yes· refl
+by-cases false yes· no· = no· refl
+
+pub bool-iff : (a b : Bool) → (a ≡ true → b ≡ true) → (b ≡ true → a ≡ true) → a ≡ b
+bool-iff true b f g = sym (f refl)
+bool-iff false true f g = g refl
+bool-iff false false f g = refl
+
+-- "not a or b" is "a implies b"
+pub given : (a : Bool) {b : Bool} → (not a || b) ≡ true → a ≡ true → b ≡ true
+given true h e = h
+given false h e = absurd (no-both e refl)
+
+pub implies : (a : Bool) {b : Bool} → (a ≡ true → b ≡ true) → (not a || b) ≡ true
+implies true f = f refl
+implies false f = refl
+
+pub either : (a : Bool) {b : Bool} {P : Type 0} → (a || b) ≡ true → (a ≡ true → P) → (b ≡ true → P) → P
+either true h f g = f refl
+either false h f g = g h
+
+pub or-left : {a : Bool} (b : Bool) → a ≡ true → (a || b) ≡ true
+or-left b h = rw h refl
+
+pub or-right : (a : Bool) {b : Bool} → b ≡ true → (a || b) ≡ true
+or-right true h = refl
+or-right false h = h
+
+-- one side of an `||` fails, so the other holds
+pub other-holds : (a : Bool) {b : Bool} → (a || b) ≡ true → a ≡ false → b ≡ true
+other-holds true h e = absurd (no-both h e)
+other-holds false h e = h

@@ -1,0 +1,172 @@
+-- A store writes one word of the table. A call is described by the list of its stores, and cut by a limit.
+use Prim.Native.Nat.{ℕ, zero, suc, _+_, _-_, _≤_}
+use mathlib.Core.Path.{_≡_, refl, ap, sym, _∙_}
+use mathlib.Core.List.{List, [], _∷_, _++_, map, map-append}
+use native.Mathlib.Nat.{zero-sub, suc-sub-suc, sub-zero}
+use native.Mathlib.Omega.{arith}
+use native.Mathlib.Numerals.{add-one}
+use lib.ListN.{length, set, length-set, length-append}
+use lib.Seq.{set-out}
+use Rattle.entries.specs.declared.geometry.Geometry.{Geometry}
+use Rattle.entries.specs.Words.{stateWord, sizeWord}
+use Rattle.entries.specs.Geometry.{markAt, entryAt}
+
+-- what is stored in an entry: "state word, current value, kept value"
+pub data Change : Type 0 where
+  stateTo : ℕ → ℕ → Change
+  valueTo : ℕ → Change
+  keptTo : ℕ → Change
+
+-- word 0 of a geometry, a mark of a node, or a change of a node's entry of an item
+pub data Store : Type 0 where
+  sizeStore : Geometry → Store
+  markStore : ℕ → ℕ → Store
+  entryStore : ℕ → ℕ → Change → Store
+
+-- ---- the encoding: which word, and what is written
+
+abbrev pub partOf : Change → ℕ
+partOf (stateTo c k) = 0
+partOf (valueTo x) = 1
+partOf (keptTo x) = 2
+
+abbrev pub changeWord : Change → ℕ
+changeWord (stateTo c k) = stateWord c k
+changeWord (valueTo x) = x
+changeWord (keptTo x) = x
+
+abbrev pub placeOf : Geometry → Store → ℕ
+placeOf g (sizeStore h) = 0
+placeOf g (markStore n w) = markAt n
+placeOf g (entryStore n b c) = entryAt g n b + partOf c
+
+abbrev pub wordOf : Store → ℕ
+wordOf (sizeStore h) = sizeWord (h .nodes) (h .items) (h .frames)
+wordOf (markStore n w) = w
+wordOf (entryStore n b c) = changeWord c
+
+-- "it makes only the first that many stores of its list"
+unfoldable pub after : Geometry → ℕ → List Store → List ℕ → List ℕ
+after g zero [] t = t
+after g zero (s ∷ ss) t = t
+after g (suc limit) [] t = t
+after g (suc limit) (s ∷ ss) t = after g limit ss (set t (placeOf g s) (wordOf s))
+
+-- f 0, f 1, .. and f (n − 1), one after the other
+unfoldable pub runs : (ℕ → List Store) → ℕ → List Store
+runs f zero = []
+runs f (suc n) = runs f n ++ f n
+
+-- a list of stores, carried out by code: the table and what is left of the limit, before and after
+pub record Stored (g : Geometry) (left : ℕ) (ss : List Store) (t t′ : List ℕ) (left′ : ℕ) : Type 0 where
+  pub table : t′ ≡ after g left ss t
+  pub rest : left′ ≡ left - length ss
+  pub size : length t′ ≡ length t
+
+-- the same for the changes of one entry
+abbrev pub StoredIn : Geometry → ℕ → ℕ → ℕ → List Change → List ℕ → List ℕ → ℕ → Type 0
+StoredIn g left n b cs t t′ left′ = Stored g left (map (entryStore n b) cs) t t′ left′
+
+-- one word, as the one storing function writes it
+unfoldable pub written : ℕ → ℕ → ℕ → List ℕ → List ℕ
+written zero at word t = t
+written (suc left) at word t = set t at word
+
+pub record Wrote (left at word : ℕ) (t t′ : List ℕ) (left′ : ℕ) : Type 0 where
+  pub table : t′ ≡ written left at word t
+  pub rest : left′ ≡ left - 1
+  pub size : length t′ ≡ length t
+
+-- ---- the laws that callers use in place of the definitions
+
+pub after-zero : (g : Geometry) (ss : List Store) (t : List ℕ) → after g zero ss t ≡ t
+unfolding after
+after-zero g [] t = refl
+after-zero g (s ∷ ss) t = refl
+
+pub after-none : (g : Geometry) (left : ℕ) (t : List ℕ) → after g left [] t ≡ t
+unfolding after
+after-none g zero t = refl
+after-none g (suc left) t = refl
+
+pub after-append :
+    (g : Geometry) (left : ℕ) (xs ys : List Store) (t : List ℕ)
+    → after g left (xs ++ ys) t ≡ after g (left - length xs) ys (after g left xs t)
+unfolding after
+after-append g zero [] ys t = refl
+after-append g zero (x ∷ xs) ys t = rw zero-sub (sym (after-zero g ys t))
+after-append g (suc left) [] ys t = rw sub-zero
+after-append g (suc left) (x ∷ xs) ys t = rw suc-sub-suc (after-append g left xs ys (set t (placeOf g x) (wordOf x)))
+
+-- the three ways of the storing function: nothing left, past the end, written
+pub wrote-cut : (left at word : ℕ) (t : List ℕ) → left ≡ 0 → Wrote left at word t t left
+unfolding written
+wrote-cut zero at word t h = record { table = refl; rest = refl; size = refl }
+wrote-cut (suc left) at word t h = absurd (omega arith)
+
+pub wrote-word : (left at word : ℕ) (t : List ℕ) → (left ≡ 0 → ⊥) → Wrote left at word t (set t at word) (left - 1)
+unfolding written
+wrote-word zero at word t h = absurd (h refl)
+wrote-word (suc left) at word t h = record { table = refl; rest = refl; size = length-set t at word }
+
+pub wrote-past : (left at word : ℕ) (t : List ℕ) → (left ≡ 0 → ⊥) → length t ≤ at → Wrote left at word t t (left - 1)
+wrote-past left at word t h k =
+    let m = wrote-word left at word t h in
+    record { table = sym (set-out t at word k) ∙ m .table; rest = m .rest; size = refl }
+
+-- a word written where and as a store says is that store
+pub stored-one :
+    (g : Geometry) (s : Store) {left left′ at word : ℕ} {t t′ : List ℕ} → Wrote left at word t t′ left′ → at ≡ placeOf g s → word ≡ wordOf s
+    → Stored g left (s ∷ []) t t′ left′
+unfolding written after
+stored-one g s {left} {at = at} {word} {t} w p q = record { table = w .table ∙ one left; rest = w .rest; size = w .size }
+  where
+    one : (left : ℕ) → written left at word t ≡ after g left (s ∷ []) t
+    one zero = refl
+    one (suc left) = rw (p, q) (sym (after-none g left (set t (placeOf g s) (wordOf s))))
+
+pub stored-none : (g : Geometry) (left : ℕ) (t : List ℕ) → Stored g left [] t t left
+stored-none g left t = record { table = sym (after-none g left t); rest = omega arith; size = refl }
+
+-- the same list, written otherwise
+pub stored-as :
+    {g : Geometry} {left left′ : ℕ} {ss ss′ : List Store} {t t′ : List ℕ} → ss ≡ ss′ → Stored g left ss′ t t′ left′
+    → Stored g left ss t t′ left′
+stored-as e s = rw e s
+
+-- one list after the other
+pub stored-then :
+    {g : Geometry} {left left₁ left₂ : ℕ} {xs ys : List Store} {t t₁ t₂ : List ℕ} → Stored g left xs t t₁ left₁
+    → Stored g left₁ ys t₁ t₂ left₂ → Stored g left (xs ++ ys) t t₂ left₂
+stored-then {g} {left} {xs = xs} {ys} {t} a b =
+    record { table = cc (after-append g left xs ys t); rest = simp length-append (omega arith); size = omega arith }
+
+pub stored-two :
+    {g : Geometry} {left left₁ left₂ : ℕ} {x y : Store} {t t₁ t₂ : List ℕ} → Stored g left (x ∷ []) t t₁ left₁ → Stored g left₁ (y ∷ []) t₁ t₂ left₂
+    → Stored g left (x ∷ y ∷ []) t t₂ left₂
+stored-two a b = stored-then a b
+
+-- three lists of changes in one entry
+pub stored-three :
+    {g : Geometry} (n b : ℕ) (xs ys zs : List Change) {left left₁ left₂ left₃ : ℕ} {t t₁ t₂ t₃ : List ℕ} → StoredIn g left n b xs t t₁ left₁
+    → StoredIn g left₁ n b ys t₁ t₂ left₂ → StoredIn g left₂ n b zs t₂ t₃ left₃ → StoredIn g left n b ((xs ++ ys) ++ zs) t t₃ left₃
+stored-three n b xs ys zs a c d =
+    stored-as
+    (map-append (entryStore n b) (xs ++ ys) zs ∙ ap (λ l. l ++ map (entryStore n b) zs) (map-append (entryStore n b) xs ys))
+    (stored-then (stored-then a c) d)
+
+-- a storing loop: before the first turn, one turn more, and at the end
+pub loop-starts : (g : Geometry) (f : ℕ → List Store) (left : ℕ) (t : List ℕ) → Stored g left (runs f 0) t t left
+unfolding runs
+loop-starts g f left t = stored-none g left t
+
+pub loop-turns :
+    {g : Geometry} (f : ℕ → List Store) (n : ℕ) {left left₁ left₂ : ℕ} {t t₁ t₂ : List ℕ} → Stored g left (runs f n) t t₁ left₁
+    → Stored g left₁ (f n) t₁ t₂ left₂ → Stored g left (runs f (n + 1)) t t₂ left₂
+unfolding runs
+loop-turns f n a b = rw add-one (stored-then a b)
+
+pub loop-ends :
+    {g : Geometry} (f : ℕ → List Store) (n m : ℕ) {left left₁ : ℕ} {t t₁ : List ℕ} → n ≤ m → m ≤ n → Stored g left (runs f n) t t₁ left₁
+    → Stored g left (runs f m) t t₁ left₁
+loop-ends f n m h k s = let e : n ≡ m = omega arith in rw e at s
