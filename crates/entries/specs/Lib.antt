@@ -10,4 +10,11 @@ pub mod ViewAfter
 pub mod Via
 pub mod Pass
 pub mod PassLeaves
+pub mod Frames
+pub mod Tally
+pub mod Items
+pub mod TallyLoop
+pub mod Sound
+pub mod MarksLoop
+pub mod Check
 pub mod Answers

@@ -1,6 +1,12 @@
-// The table: its geometry, words and state changes, the one function that stores, what a table shows, and the frames in use.
+// The table: its geometry, words and state changes, the one function that stores, what a table shows, the frames in use, and the table checks.
 pub mod answers;
 pub mod changes;
+pub mod check;
+pub mod frames;
 pub mod geometry;
+mod items;
+mod marks;
+pub mod sound;
 pub mod stores;
+mod tally;
 pub mod words;

@@ -1,0 +1,15 @@
+-- `table_sound` meets its contract: all tests together. Assumes nothing.
+use Rattle.entries.specs.MarksLoop.{marked-sound}
+use borrow.Author.Needs.{needs}
+use Rattle.entries.proofs.sound.table_sound.Statement.{statement}
+use Rattle.entries.proofs.sound.table_sound.Tie as tie
+
+pub table-sound-spec : {M : Type 1} → statement M
+table-sound-spec =
+    tie.close
+    (tie.spec
+    (λ c κs. search needs)
+    (λ c κs. search needs)
+    (λ c κs. search needs)
+    (λ c κs. search needs)
+    (λ c. let i = c .before in let a = i .before .before .before in marked-sound _ _ _ (a .before .marks-met .ensures) (a .agree .ensures) (i .before .nodes-sound .ensures) (i .items-sound .ensures)))

@@ -1,0 +1,72 @@
+-- Soundness, as a test of the view: "The table is sound if word forms hold, live marks agree in phase (0 or 1) and number (under 2^32 − 1
+-- in phase 1), and every item over the live nodes is one of: clean; dirty; created".
+use mathlib.Core.Path.{_≡_}
+use mathlib.Core.Bool.{Bool, true, not, _&&_, _||_}
+use Prim.Native.Nat.{ℕ, _-_, _^_}
+use lib.Dec.{ltb, eqb}
+use borrow.Author.Tests.{eq-eqb, ne-eqb}
+use Rattle.counting.specs.declared.values.Values.{Values}
+use Rattle.counting.specs.Counting.{every}
+use Rattle.counting.specs.Values.{valuesOf}
+use Rattle.entries.specs.declared.geometry.Geometry.{Geometry}
+use Rattle.entries.specs.Words.{stateForm, markForm, phaseOf, numberOf}
+use Rattle.entries.specs.View.{View, live}
+use Rattle.entries.specs.Frames.{framesFit}
+use Rattle.entries.specs.Tally.{countsOf}
+use Rattle.entries.specs.Items.{itemTest}
+
+-- ---- marks
+
+unfoldable pub marksForm : View → ℕ → Bool
+marksForm v n = every (λ k. markForm (v .mark k)) n
+
+-- the phases and the point numbers of the live marks below n
+unfoldable pub phasesOf : View → ℕ → Values
+phasesOf v n = valuesOf n (live v) (λ k. phaseOf (v .mark k))
+
+unfoldable pub pointsOf : View → ℕ → Values
+pointsOf v n = valuesOf n (live v) (λ k. numberOf (v .mark k))
+
+-- "live marks agree in phase (0 or 1) and number (under 2^32 − 1 in phase 1)"
+abbrev pub marksAgree : Values → Values → Bool
+marksAgree phases points =
+    phases .equal && (points .equal && (ltb (phases .first) 2 && (not (eqb (phases .first) 1) || ltb (points .first) (2 ^ 32 - 1))))
+
+-- ---- nodes
+
+-- word forms of a node's entries
+unfoldable pub statesForm : Geometry → View → ℕ → Bool
+statesForm g v n = every (λ b. stateForm (v .entry n b .state)) (g .items)
+
+-- "A dead node's words, mark apart, are never read."
+unfoldable pub nodeSound : Geometry → View → ℕ → Bool
+nodeSound g v n = not (live v n) || (statesForm g v n && framesFit g v n)
+
+unfoldable pub nodesSound : Geometry → View → Bool
+nodesSound g v = every (nodeSound g v) (g .nodes)
+
+-- ---- items
+
+unfoldable pub itemSound : Geometry → View → ℕ → ℕ → Bool
+itemSound g v phase b = itemTest phase (countsOf v b (g .nodes))
+
+unfoldable pub itemsSound : Geometry → View → ℕ → Bool
+itemsSound g v phase = every (itemSound g v phase) (g .items)
+
+-- ---- the table
+
+unfoldable pub sound : Geometry → View → Bool
+sound g v =
+    marksForm v (g .nodes)
+    && (marksAgree (phasesOf v (g .nodes)) (pointsOf v (g .nodes)) && (nodesSound g v && itemsSound g v (phasesOf v (g .nodes) .first)))
+
+-- ---- the ways of the code: a dead node, a live one
+
+module _ (g : Geometry) (v : View) (n mark : ℕ) (e : mark ≡ v .mark n) where
+  pub node-dead : mark ≡ 0 → true ≡ nodeSound g v n
+  unfolding nodeSound
+  node-dead d = simp (← e, eq-eqb mark 0 d)
+
+  pub node-live : (mark ≡ 0 → ⊥) → {forms frames : Bool} → forms ≡ statesForm g v n → frames ≡ framesFit g v n → (forms && frames) ≡ nodeSound g v n
+  unfolding nodeSound
+  node-live d f u = simp (← e, ne-eqb mark 0 d, f, u)

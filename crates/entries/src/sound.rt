@@ -1,0 +1,81 @@
+// Whether a table is sound. Of a dead node nothing but the mark is read.
+ghost use mathlib.Core.Path.{_≡_};
+ghost use Rattle.entries.specs.View.{view};
+ghost use Rattle.entries.specs.Sound.{statesForm, nodeSound, nodesSound, itemsSound, sound};
+use crate::frames;
+use crate::geometry::Geometry;
+use crate::items;
+use crate::marks;
+use crate::stores;
+use crate::words;
+
+// Whether each state word of a node has its form.
+pub fn states_form(table: &[u64], g: Geometry, node: u8) -> bool
+    ensures { λ r. ⌜ r ≡ statesForm g (view g (now (table .entry))) node ⌝ }
+{
+    let items = g.items;
+    let mut ok = true;
+    let mut item: u16 = 0;
+    while item < items {
+        let form = words::state_form(stores::state_at(table, g, node, item));
+        ok = ok & form;
+        item += 1;
+    }
+    ok
+}
+
+// Whether a node is dead, or its state words have their form and its frames suffice.
+fn node_sound(table: &[u64], g: Geometry, node: u8) -> bool
+    ensures { λ r. ⌜ r ≡ nodeSound g (view g (now (table .entry))) node ⌝ }
+{
+    let mark = stores::mark_at(table, g, node);
+    if mark == 0 {
+        return true;
+    }
+    let forms = states_form(table, g, node);
+    let fit = frames::frames_fit(table, g, node);
+    forms & fit
+}
+
+// Whether each node is sound.
+fn nodes_sound(table: &[u64], g: Geometry) -> bool
+    ensures { λ r. ⌜ r ≡ nodesSound g (view g (now (table .entry))) ⌝ }
+{
+    let nodes = g.nodes;
+    let mut ok = true;
+    let mut node: u8 = 0;
+    while node < nodes {
+        let good = node_sound(table, g, node);
+        ok = ok & good;
+        node += 1;
+    }
+    ok
+}
+
+// Whether each item is clean, dirty, or, in phase 1 only, created.
+fn items_sound(table: &[u64], g: Geometry, phase: u64) -> bool
+    ensures { λ r. ⌜ r ≡ itemsSound g (view g (now (table .entry))) phase ⌝ }
+{
+    let items = g.items;
+    let mut ok = true;
+    let mut item: u16 = 0;
+    while item < items {
+        let good = items::item_sound(table, g, phase, item);
+        ok = ok & good;
+        item += 1;
+    }
+    ok
+}
+
+// Whether a table of this geometry is sound.
+pub fn table_sound(table: &[u64], g: Geometry) -> bool
+    ensures { λ r. ⌜ r ≡ sound g (view g (now (table .entry))) ⌝ }
+{
+    let m = marks::marks_met(table, g);
+    let agree = marks::agree(m);
+    let phases = m.phases;
+    let phase = phases.first;
+    let nodes = nodes_sound(table, g);
+    let items = items_sound(table, g, phase);
+    m.form & (agree & (nodes & items))
+}
