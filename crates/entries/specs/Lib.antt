@@ -17,4 +17,15 @@ pub mod TallyLoop
 pub mod Sound
 pub mod MarksLoop
 pub mod Check
+pub mod Kinds
+pub mod Codes
+pub mod KindFacts
+pub mod KindTests
+pub mod Copies
+pub mod Back
+pub mod Update
+pub mod Sharers
+pub mod SoundFacts
+pub mod CheckFacts
+pub mod FirstPlaces
 pub mod Answers
