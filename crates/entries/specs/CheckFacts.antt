@@ -18,7 +18,7 @@ use Rattle.entries.specs.declared.check.Checked.the-variants.{Passed, Fa
 use Rattle.entries.specs.declared.answers.Refusal.{Refusal}
 use Rattle.entries.specs.Words.{sizeWord, sizeForm, nodesOf, itemsOf, framesOf, size-parts, nodes-size, items-size, frames-size}
 use Rattle.entries.specs.Forms.{form-facts, size-form}
-use Rattle.entries.specs.Geometry.{allowed, inRanges, geometryOf, wordsOf, Sized, sized}
+use Rattle.entries.specs.Geometry.{allowed, inRanges, wordsOf, Sized, sized, made-allowed, allowed-made}
 use Rattle.entries.specs.View.{View, view, live}
 use Rattle.entries.specs.Sound.{sound}
 use Rattle.entries.specs.Check.{madeOf, lengthOf, sizesOf, soundOf, faultOf, sizes-passed}
@@ -36,17 +36,6 @@ pub record Shape (t : List ℕ) (g : Geometry) : Type 0 where
 
 never-passed : {x : Refusal} {g : Geometry} → Failed x ≡ Passed g → ⊥
 never-passed e = let z : _≡_ {A = ℕ} 0 1 = cc in omega arith
-
--- a geometry that was made is allowed, and has the numbers that were asked for
-pub made-allowed : (n m f : ℕ) (g : Geometry) → geometryOf n m f ≡ Allowed g → (allowed n m f ≡ true) × (g ≡ record { nodes = n; items = m; frames = f })
-unfolding geometryOf
-made-allowed n m f g e = by-cases (allowed n m f)
-    (λ y. (y, let e′ : Allowed (record { nodes = n; items = m; frames = f }) ≡ Allowed g = rw y at e in cc))
-    (λ y. let e′ : NotAllowed ≡ Allowed g = rw y at e in let z : _≡_ {A = ℕ} 0 1 = cc in absurd (omega arith))
-
-pub allowed-made : (n m f : ℕ) → allowed n m f ≡ true → geometryOf n m f ≡ Allowed (record { nodes = n; items = m; frames = f })
-unfolding geometryOf
-allowed-made n m f e = rw e refl
 
 pub sizes-facts : (t : List ℕ) (g : Geometry) → sizesOf t ≡ Passed g → Shape t g
 unfolding sizesOf lengthOf

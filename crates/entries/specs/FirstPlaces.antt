@@ -14,9 +14,7 @@ use Rattle.entries.specs.Words.{sharedCK1, sharedCK2, invalid}
 use Rattle.counting.specs.Counting.{sum, count, one}
 use Rattle.entries.specs.Frames.{frameOf}
 use Rattle.entries.specs.Kinds.{cleanCode}
-
-abbrev pub firstPlace : ℕ → ℕ → ℕ → ℕ
-firstPlace N n b = cond (eqb n (2 * b % N)) sharedCK1 (cond (eqb n ((2 * b + 1) % N)) sharedCK2 invalid)
+use Rattle.entries.specs.Format.{firstPlace}
 
 -- two numbers in a row are on two nodes
 pub next-node : (N x : ℕ) → 2 ≤ N → (x + 1) % N ≢ x % N

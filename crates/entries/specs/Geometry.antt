@@ -1,6 +1,6 @@
 -- Which geometries are allowed, and where the words of a table lie.
 use Prim.Native.Nat.{ℕ, _+_, _-_, _*_, _/_, _%_, _<_, _≤_}
-use mathlib.Core.Path.{_≡_, sym, ap, _∙_}
+use mathlib.Core.Path.{_≡_, refl, sym, ap, _∙_}
 use mathlib.Core.Logic.{_≢_}
 use mathlib.Core.Bool.{Bool, true, not, cond, _&&_}
 use native.Mathlib.Omega.{arith}
@@ -8,7 +8,7 @@ use native.Mathlib.Nat.{mul-le-mul}
 use lib.Arith.{digits-div, digits-mod, digits-lt}
 use lib.Dec.{leb, ltb}
 use borrow.Author.Tests.{leb-true, ltb-false, not-true}
-use Rattle.counting.specs.Tests.{both}
+use Rattle.counting.specs.Tests.{both, by-cases}
 use Rattle.entries.specs.declared.geometry.Geometry.{Geometry}
 use Rattle.entries.specs.declared.geometry.Made.{Made}
 use Rattle.entries.specs.declared.geometry.Made.the-variants.{Allowed, NotAllowed}
@@ -86,3 +86,17 @@ sized n m f h =
 -- the frames of two nodes fewer hold every copy but one
 pub roomy : (n m f : ℕ) → allowed n m f ≡ true → 2 * m - 1 ≤ (n - 2) * f
 roomy n m f h = ltb-false ((n - 2) * f) (2 * m - 1) (not-true _ (both (inRanges n m f) h .1))
+
+-- a geometry that was made is allowed, and has the numbers that were asked for
+pub made-allowed : (n m f : ℕ) (g : Geometry) → geometryOf n m f ≡ Allowed g → (allowed n m f ≡ true) × (g ≡ record { nodes = n; items = m; frames = f })
+unfolding geometryOf
+made-allowed n m f g e = by-cases (allowed n m f)
+    (λ y. (y, let e′ : Allowed (record { nodes = n; items = m; frames = f }) ≡ Allowed g = rw y at e in cc))
+    (λ y. let e′ : NotAllowed ≡ Allowed g = rw y at e in let z : _≡_ {A = ℕ} 0 1 = cc in absurd (omega arith))
+
+pub allowed-made : (n m f : ℕ) → allowed n m f ≡ true → geometryOf n m f ≡ Allowed (record { nodes = n; items = m; frames = f })
+unfolding geometryOf
+allowed-made n m f e = rw e refl
+
+pub made-sized : (n m f : ℕ) {g : Geometry} → geometryOf n m f ≡ Allowed g → Sized (g .nodes) (g .items) (g .frames)
+made-sized n m f {g} e = let mk = made-allowed n m f g e in rw (mk .1) (sized n m f (both (inRanges n m f) (mk .0) .0))

@@ -17,6 +17,7 @@ pub mod TallyLoop
 pub mod Sound
 pub mod MarksLoop
 pub mod Check
+pub mod Answers
 pub mod Kinds
 pub mod Codes
 pub mod KindFacts
@@ -27,5 +28,7 @@ pub mod Update
 pub mod Sharers
 pub mod SoundFacts
 pub mod CheckFacts
+pub mod Unread
+pub mod Format
 pub mod FirstPlaces
-pub mod Answers
+pub mod FormatTheorem

@@ -1,12 +1,14 @@
 -- A store writes one word of the table. A call is described by the list of its stores, and cut by a limit.
-use Prim.Native.Nat.{ℕ, zero, suc, _+_, _-_, _≤_}
-use mathlib.Core.Path.{_≡_, refl, ap, sym, _∙_}
-use mathlib.Core.List.{List, [], _∷_, _++_, map, map-append}
-use native.Mathlib.Nat.{zero-sub, suc-sub-suc, sub-zero}
+use Prim.Native.Nat.{ℕ, zero, suc, _+_, _-_, _*_, _/_, _%_, _≤_, _<_}
+use mathlib.Core.Path.{_≡_, refl, ap, ap₂, sym, _∙_}
+use mathlib.Core.Logic.{_≢_}
+use mathlib.Core.List.{List, [], _∷_, _++_, map, map-append, append-nil, append-assoc}
+use native.Mathlib.Nat.{zero-sub, suc-sub-suc, sub-zero, add-zero}
 use native.Mathlib.Omega.{arith}
 use native.Mathlib.Numerals.{add-one}
-use lib.ListN.{length, set, length-set, length-append}
-use lib.Seq.{set-out}
+use lib.Arith.{digits-div, digits-mod}
+use lib.ListN.{length, getD, set, length-set, length-append}
+use lib.Seq.{set-out, getD-set-other}
 use Rattle.entries.specs.declared.geometry.Geometry.{Geometry}
 use Rattle.entries.specs.Words.{stateWord, sizeWord}
 use Rattle.entries.specs.Geometry.{markAt, entryAt}
@@ -170,3 +172,66 @@ pub loop-ends :
     {g : Geometry} (f : ℕ → List Store) (n m : ℕ) {left left₁ : ℕ} {t t₁ : List ℕ} → n ≤ m → m ≤ n → Stored g left (runs f n) t t₁ left₁
     → Stored g left (runs f m) t t₁ left₁
 loop-ends f n m h k s = let e : n ≡ m = omega arith in rw e at s
+
+-- ---- lists of a loop, as lists
+
+pub runs-ext : (n : ℕ) (f h : ℕ → List Store) → ((i : ℕ) → i < n → f i ≡ h i) → runs f n ≡ runs h n
+unfolding runs
+runs-ext zero f h e = refl
+runs-ext (suc n) f h e = ap₂ _++_ (runs-ext n f h (λ i l. e i (omega arith))) (e n (omega arith))
+
+pub runs-add : (f : ℕ → List Store) (m k : ℕ) → runs f (m + k) ≡ runs f m ++ runs (λ i. f (m + i)) k
+unfolding runs
+runs-add f m zero = rw (add-zero m) (sym (append-nil (runs f m)))
+runs-add f m (suc k) =
+    let e : m + suc k ≡ suc (m + k) = omega arith in
+    rw e (ap (λ l. l ++ f (m + k)) (runs-add f m k) ∙ append-assoc (runs f m) (runs (λ i. f (m + i)) k) (f (m + k)))
+
+-- two loops, one in the other, are one loop: "by node, then item"
+pub nested-flat :
+    (f : ℕ → ℕ → List Store) (M N : ℕ) → runs (λ n. runs (f n) M) N ≡ runs (λ k. f (k / M) (k % M)) (N * M)
+unfolding runs
+nested-flat f M zero = let e : 0 * M ≡ 0 = omega arith in rw e refl
+nested-flat f M (suc N) =
+    let e : suc N * M ≡ N * M + M = omega arith in
+    rw (e, runs-add (λ k. f (k / M) (k % M)) (N * M) M)
+    (ap₂ _++_ (nested-flat f M N)
+    (runs-ext M (f N) (λ i. f ((N * M + i) / M) ((N * M + i) % M)) (λ i l. rw (digits-div N l, digits-mod N l) refl)))
+
+pub runs-length : (f : ℕ → List Store) (c : ℕ) → ((i : ℕ) → length (f i) ≡ c) → (n : ℕ) → length (runs f n) ≡ n * c
+unfolding runs
+runs-length f c h zero = omega arith
+runs-length f c h (suc n) = omega (arith, length-append (runs f n) (f n), runs-length f c h n, h n)
+
+-- ---- what any number of stores leaves
+
+pub after-length : (g : Geometry) (limit : ℕ) (ss : List Store) (t : List ℕ) → length (after g limit ss t) ≡ length t
+unfolding after
+after-length g zero [] t = refl
+after-length g zero (s ∷ ss) t = refl
+after-length g (suc limit) [] t = refl
+after-length g (suc limit) (s ∷ ss) t = after-length g limit ss (set t (placeOf g s) (wordOf s)) ∙ length-set t (placeOf g s) (wordOf s)
+
+-- every store of a list
+pub data All (P : Store → Type 0) : List Store → Type 0 where
+  none : All P []
+  more : {s : Store} {ss : List Store} → P s → All P ss → All P (s ∷ ss)
+
+pub all-then : {P : Store → Type 0} {xs ys : List Store} → All P xs → All P ys → All P (xs ++ ys)
+all-then none b = b
+all-then (more p a) b = more p (all-then a b)
+
+pub all-runs : {P : Store → Type 0} (f : ℕ → List Store) → ((i : ℕ) → All P (f i)) → (n : ℕ) → All P (runs f n)
+unfolding runs
+all-runs f h zero = none
+all-runs f h (suc n) = all-then (all-runs f h n) (h n)
+
+-- a word that no store is at
+pub after-off :
+    (g : Geometry) (i limit : ℕ) {ss : List Store} (t : List ℕ) → All (λ s. i ≢ placeOf g s) ss → getD (after g limit ss t) i 0 ≡ getD t i 0
+unfolding after
+after-off g i zero t none = refl
+after-off g i zero t (more p a) = refl
+after-off g i (suc limit) t none = refl
+after-off g i (suc limit) t (more {s} p a) =
+    after-off g i limit (set t (placeOf g s) (wordOf s)) a ∙ getD-set-other t (placeOf g s) i (wordOf s) 0 p

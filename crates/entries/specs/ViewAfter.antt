@@ -12,7 +12,7 @@ use borrow.Author.Tests.{ltb-true, lt-ltb}
 use Rattle.entries.specs.declared.geometry.Geometry.{Geometry}
 use Rattle.counting.specs.Tests.{both}
 use Rattle.entries.specs.Geometry.{markAt, entryAt, wordsOf, entry-within, entries-apart}
-use Rattle.entries.specs.Stores.{Change, stateTo, valueTo, keptTo, partOf, changeWord, Store, sizeStore, markStore, entryStore, placeOf, wordOf, after}
+use Rattle.entries.specs.Stores.{Change, stateTo, valueTo, keptTo, partOf, changeWord, Store, sizeStore, markStore, entryStore, placeOf, wordOf, after, All, none, more}
 use Rattle.entries.specs.View.{view, entryIn, blank, there, changed, update, updates}
 use Rattle.entries.specs.Puts.{put₁-case, put₂-case}
 
@@ -21,11 +21,6 @@ abbrev pub Within : Geometry → Store → Type 0
 Within g (sizeStore h) = Unit {0}
 Within g (markStore n w) = n < g .nodes
 Within g (entryStore n b c) = (n < g .nodes) × (b < g .items)
-
--- every store of a list
-pub data All (P : Store → Type 0) : List Store → Type 0 where
-  none : All P []
-  more : {s : Store} {ss : List Store} → P s → All P ss → All P (s ∷ ss)
 
 part-low : (c : Change) → partOf c < 3
 part-low (stateTo c k) = lit< tt

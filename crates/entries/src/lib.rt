@@ -2,6 +2,7 @@
 pub mod answers;
 pub mod changes;
 pub mod check;
+pub mod format;
 pub mod frames;
 pub mod geometry;
 mod items;
