@@ -30,5 +30,6 @@ pub mod SoundFacts
 pub mod CheckFacts
 pub mod Unread
 pub mod Format
+pub mod Stretch
 pub mod FirstPlaces
 pub mod FormatTheorem

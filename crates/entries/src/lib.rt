@@ -9,5 +9,6 @@ mod items;
 mod marks;
 pub mod sound;
 pub mod stores;
+pub mod stretch;
 mod tally;
 pub mod words;

@@ -1,0 +1,59 @@
+// A step carried out on quay's table.
+use entries::answers::Answer;
+use steps::decode::Step;
+use steps::lines::Outcome;
+
+// A limit that no list of stores reaches.
+const WHOLE: u64 = u64::MAX;
+
+// What came of a record, and whether a format was accepted so far.
+pub(crate) struct Served {
+    pub outcome: Outcome,
+    pub formatted: bool,
+}
+
+// The table as it is lent: empty until a format is accepted.
+fn lent(table: &mut [u64], formatted: bool) -> &mut [u64] {
+    if formatted {
+        return table;
+    }
+    &mut table[..0]
+}
+
+// Whether a format was accepted, now or before.
+fn formatted_after(answer: Answer, formatted: bool) -> bool {
+    match answer {
+        Answer::Done {
+            value: _,
+            stores: _,
+        } => true,
+        Answer::NothingLeft => formatted,
+        Answer::Refused(_) => formatted,
+    }
+}
+
+// A call other than format; none is served yet.
+fn call(table: &mut [u64], step: Step) -> Outcome {
+    Outcome::Malformed
+}
+
+// Carries out a step.
+pub(crate) fn serve(table: &mut [u64], formatted: bool, step: Step) -> Served {
+    match step {
+        Step::Format {
+            nodes,
+            items,
+            frames,
+        } => {
+            let answer = entries::format::format(table, nodes, items, frames, WHOLE);
+            Served {
+                outcome: Outcome::Answered(answer),
+                formatted: formatted_after(answer, formatted),
+            }
+        }
+        _ => Served {
+            outcome: call(lent(table, formatted), step),
+            formatted,
+        },
+    }
+}

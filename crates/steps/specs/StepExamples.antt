@@ -1,0 +1,110 @@
+-- Document 01's records and malformed ones, computed by the definitions.
+use Prim.Native.Nat.{ℕ, _+_, _-_, _*_, _^_}
+use mathlib.Core.Path.{_≡_, refl}
+use mathlib.Core.List.{[], _∷_, _++_}
+use lib.ListN.{replicate}
+use Rattle.steps.specs.declared.decode.Place.the-variants.{Current, Kept}
+use Rattle.steps.specs.declared.decode.Lost.the-variants.{Nobody, Node}
+use Rattle.steps.specs.declared.decode.Step.the-variants.{Format, Read, Write, Evict, Open, Create, Commit, Abandon, Recover, Malformed}
+use Rattle.steps.specs.Steps.{choiceOf, lostOf, formatStep, readStep, writeStep, evictStep, bareStep, recoverStep, stepBy, stepOf}
+use Rattle.steps.specs.Records.{recordOf}
+
+-- the first word of operation o, node n, item b, place p
+abbrev word : (o n b p : ℕ) → ℕ
+word o n b p = o * 2 ^ 60 + n * 2 ^ 56 + b * 2 ^ 48 + p * 2 ^ 47
+
+-- the first word of a format
+abbrev sizes : (n m f : ℕ) → ℕ
+sizes n m f = n * 2 ^ 55 + m * 2 ^ 46 + f * 2 ^ 36
+
+-- "Records: format 3, 1, 2; write node 2 item 0 value 7; read node 0; open; create; commit; write node 0 value 9; recover lost 2; read node 1;
+-- read node 2."
+pub listing :
+    (stepOf (sizes 3 1 2) 0
+    ∷ stepOf (word 2 2 0 0) 7
+    ∷ stepOf (word 1 0 0 0) 0
+    ∷ stepOf (word 4 0 0 0) 0
+    ∷ stepOf (word 5 0 0 0) 0
+    ∷ stepOf (word 6 0 0 0) 0
+    ∷ stepOf (word 2 0 0 0) 9
+    ∷ stepOf (word 8 2 0 0) 0
+    ∷ stepOf (word 1 1 0 0) 0
+    ∷ stepOf (word 1 2 0 0) 0
+    ∷ [])
+    ≡ (Format 3 1 2
+    ∷ Write 2 0 7
+    ∷ Read 0 0
+    ∷ Open
+    ∷ Create
+    ∷ Commit
+    ∷ Write 0 0 9
+    ∷ Recover (Node 2)
+    ∷ Read 1 0
+    ∷ Read 2 0
+    ∷ [])
+unfolding choiceOf lostOf formatStep readStep writeStep evictStep bareStep recoverStep stepBy
+listing = refl
+
+-- the largest fields, the kept place, a Recover of none, abandon, a format out of range
+pub others :
+    (stepOf (word 1 15 255 0) 0
+    ∷ stepOf (word 2 15 255 0) (2 ^ 64 - 1)
+    ∷ stepOf (word 3 15 255 0) 0
+    ∷ stepOf (word 3 15 255 1) 0
+    ∷ stepOf (word 7 0 0 0) 0
+    ∷ stepOf (word 8 15 0 0) 0
+    ∷ stepOf (word 8 0 0 1) 0
+    ∷ stepOf (sizes 31 511 1023) 0
+    ∷ stepOf 0 0
+    ∷ [])
+    ≡ (Read 15 255
+    ∷ Write 15 255 (2 ^ 64 - 1)
+    ∷ Evict 15 255 Current
+    ∷ Evict 15 255 Kept
+    ∷ Abandon
+    ∷ Recover (Node 15)
+    ∷ Recover Nobody
+    ∷ Format 31 511 1023
+    ∷ Format 0 0 0
+    ∷ [])
+unfolding choiceOf lostOf formatStep readStep writeStep evictStep bareStep recoverStep stepBy
+others = refl
+
+-- "A record that breaks this, any other operation": a format with a bit after F, or a second word; a read with a place, a bit after it, or a
+-- value; a write with a place or a bit after it; an evict with a bit after its place, or a value; a bare step with a node, an item, a place, a bit
+-- after it, or a value; a Recover with an item, a bit after its place, or a value, and one of none with a node; operations 9 and 15
+pub malformed :
+    (stepOf (sizes 3 1 2 + 2 ^ 35) 0
+    ∷ stepOf (sizes 3 1 2) 1
+    ∷ stepOf (word 1 0 0 1) 0
+    ∷ stepOf (word 1 0 0 0 + 2 ^ 46) 0
+    ∷ stepOf (word 1 0 0 0) 7
+    ∷ stepOf (word 2 0 0 1) 7
+    ∷ stepOf (word 2 0 0 0 + 1) 7
+    ∷ stepOf (word 3 0 0 1 + 1) 0
+    ∷ stepOf (word 3 0 0 1) 1
+    ∷ stepOf (word 4 1 0 0) 0
+    ∷ stepOf (word 5 0 1 0) 0
+    ∷ stepOf (word 6 0 0 1) 0
+    ∷ stepOf (word 7 0 0 0 + 2 ^ 46) 0
+    ∷ stepOf (word 4 0 0 0) (2 ^ 63)
+    ∷ stepOf (word 8 2 1 0) 0
+    ∷ stepOf (word 8 2 0 0 + 1) 0
+    ∷ stepOf (word 8 2 0 0) 1
+    ∷ stepOf (word 8 2 0 1) 0
+    ∷ stepOf (word 9 0 0 0) 0
+    ∷ stepOf (word 15 0 0 0) 0
+    ∷ [])
+    ≡ replicate 20 Malformed
+unfolding choiceOf lostOf formatStep readStep writeStep evictStep bareStep recoverStep stepBy
+malformed = refl
+
+-- "write node 2 item 0 value 7" as bytes, with a byte of the next record, and cut off
+pub bytes-of-a-write : recordOf (34 ∷ replicate 14 0 ++ (7 ∷ 255 ∷ [])) ≡ Write 2 0 7
+unfolding choiceOf lostOf formatStep readStep writeStep evictStep bareStep recoverStep stepBy recordOf
+bytes-of-a-write = refl
+
+-- "a cut-off last record"
+pub cut-off : recordOf (34 ∷ replicate 14 0) ≡ Malformed
+unfolding recordOf
+cut-off = refl

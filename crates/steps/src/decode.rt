@@ -1,0 +1,175 @@
+// A record's two words, decoded.
+ghost use mathlib.Core.Path.{_≡_};
+ghost use Rattle.steps.specs.Steps.{nodeOf, itemOf, placeOf, restOf, choiceOf, lostOf, formatStep, readStep, writeStep, evictStep, bareStep, recoverStep, stepOf};
+
+// The place that an Evict names.
+pub enum Place {
+    Current,
+    Kept,
+}
+
+// The node that a Recover names, or that it names none.
+pub enum Lost {
+    Nobody,
+    Node(u64),
+}
+
+// What a record asks for.
+pub enum Step {
+    Format { nodes: u64, items: u64, frames: u64 },
+    Read { node: u64, item: u64 },
+    Write { node: u64, item: u64, value: u64 },
+    Evict { node: u64, item: u64, place: Place },
+    Open,
+    Create,
+    Commit,
+    Abandon,
+    Recover { lost: Lost },
+    Malformed,
+}
+
+fn node_of(first: u64) -> u64
+    ensures { λ r. ⌜ r ≡ nodeOf first ⌝ }
+{
+    first / 0x100_0000_0000_0000 % 16
+}
+
+fn item_of(first: u64) -> u64
+    ensures { λ r. ⌜ r ≡ itemOf first ⌝ }
+{
+    first / 0x1_0000_0000_0000 % 256
+}
+
+fn place_of(first: u64) -> u64
+    ensures { λ r. ⌜ r ≡ placeOf first ⌝ }
+{
+    first / 0x8000_0000_0000 % 2
+}
+
+// The bits after the last field.
+fn rest_of(first: u64) -> u64
+    ensures { λ r. ⌜ r ≡ restOf first ⌝ }
+{
+    first % 0x8000_0000_0000
+}
+
+// The place field of an Evict.
+fn choice_of(first: u64) -> Place
+    ensures { λ r. ⌜ r ≡ choiceOf first ⌝ }
+{
+    if place_of(first) == 0 {
+        return Place::Current;
+    }
+    Place::Kept
+}
+
+// The node and place fields of a Recover.
+fn lost_of(first: u64) -> Lost
+    ensures { λ r. ⌜ r ≡ lostOf first ⌝ }
+{
+    if place_of(first) == 0 {
+        return Lost::Node(node_of(first));
+    }
+    Lost::Nobody
+}
+
+// A record of operation 0.
+fn format_step(first: u64, second: u64) -> Step
+    ensures { λ r. ⌜ r ≡ formatStep first second ⌝ }
+{
+    if entries::words::size_form(first) & (second == 0) {
+        return Step::Format {
+            nodes: entries::words::nodes_of(first),
+            items: entries::words::items_of(first),
+            frames: entries::words::frames_of(first),
+        };
+    }
+    Step::Malformed
+}
+
+// A record of operation 1.
+fn read_step(first: u64, second: u64) -> Step
+    ensures { λ r. ⌜ r ≡ readStep first second ⌝ }
+{
+    if (place_of(first) == 0) & ((rest_of(first) == 0) & (second == 0)) {
+        return Step::Read {
+            node: node_of(first),
+            item: item_of(first),
+        };
+    }
+    Step::Malformed
+}
+
+// A record of operation 2.
+fn write_step(first: u64, second: u64) -> Step
+    ensures { λ r. ⌜ r ≡ writeStep first second ⌝ }
+{
+    if (place_of(first) == 0) & (rest_of(first) == 0) {
+        return Step::Write {
+            node: node_of(first),
+            item: item_of(first),
+            value: second,
+        };
+    }
+    Step::Malformed
+}
+
+// A record of operation 3.
+fn evict_step(first: u64, second: u64) -> Step
+    ensures { λ r. ⌜ r ≡ evictStep first second ⌝ }
+{
+    if (rest_of(first) == 0) & (second == 0) {
+        let place = choice_of(first);
+        return Step::Evict {
+            node: node_of(first),
+            item: item_of(first),
+            place,
+        };
+    }
+    Step::Malformed
+}
+
+// A record of an operation that uses no field.
+fn bare_step(step: Step, first: u64, second: u64) -> Step
+    ensures { λ r. ⌜ r ≡ bareStep step first second ⌝ }
+{
+    if (node_of(first) == 0)
+        & ((item_of(first) == 0)
+            & ((place_of(first) == 0) & ((rest_of(first) == 0) & (second == 0))))
+    {
+        return step;
+    }
+    Step::Malformed
+}
+
+// A record of operation 8.
+fn recover_step(first: u64, second: u64) -> Step
+    ensures { λ r. ⌜ r ≡ recoverStep first second ⌝ }
+{
+    if (item_of(first) == 0)
+        & ((rest_of(first) == 0)
+            & ((second == 0) & ((place_of(first) == 0) | (node_of(first) == 0))))
+    {
+        let lost = lost_of(first);
+        return Step::Recover { lost };
+    }
+    Step::Malformed
+}
+
+// What a record's two words ask for.
+pub fn decode(first: u64, second: u64) -> Step
+    ensures { λ r. ⌜ r ≡ stepOf first second ⌝ }
+{
+    match first / 0x1000_0000_0000_0000 {
+        0 => format_step(first, second),
+        1 => read_step(first, second),
+        2 => write_step(first, second),
+        3 => evict_step(first, second),
+        4 => bare_step(Step::Open, first, second),
+        5 => bare_step(Step::Create, first, second),
+        6 => bare_step(Step::Commit, first, second),
+        7 => bare_step(Step::Abandon, first, second),
+        8 => recover_step(first, second),
+        _ => Step::Malformed,
+    }
+}
