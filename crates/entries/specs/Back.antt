@@ -7,12 +7,12 @@ use native.Mathlib.Omega.{arith}
 use native.Mathlib.Decide.{ℕ-discrete}
 use lib.Dec.{eqb}
 use borrow.Author.Tests.{eqb-true, eq-eqb, ne-eqb}
-use Rattle.entries.specs.Words.{sharedCK1, sharedCK2, invCK1, invCK2, modified}
+use Rattle.table.specs.Words.{sharedCK1, sharedCK2, invCK1, invCK2, modified}
 use Rattle.counting.specs.Tests.{no-both, both, and-both}
-use Rattle.entries.specs.View.{View, live, current, kept}
+use Rattle.table.specs.View.{View, live, current, kept}
 use Rattle.counting.specs.Counting.{Only, only-same}
 use Rattle.entries.specs.Tally.{has, hasKept, copy}
-use Rattle.entries.specs.Copies.{copyNumber, copyValue, backCopy, back-number, back-value}
+use Rattle.table.specs.Copies.{copyNumber, copyValue, backCopy, back-number, back-value}
 use Rattle.entries.specs.Kinds.{ownerCode, createdCode, Clean, Saved, Owned, modified-at, owner-at, Kind, clean, dirty, created, copy-at, has-code, no-keep, keep-at}
 
 -- the number of node n's recovery copy of item b, 0 for none; and its value

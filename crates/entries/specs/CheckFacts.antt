@@ -10,16 +10,16 @@ use lib.Dec.{leb, eqb}
 use lib.ListN.{length, getD}
 use borrow.Author.Tests.{eqb-true, leb-true}
 use Rattle.counting.specs.Tests.{both, by-cases}
-use Rattle.entries.specs.declared.geometry.Geometry.{Geometry}
-use Rattle.entries.specs.declared.geometry.Made.{Made}
-use Rattle.entries.specs.declared.geometry.Made.the-variants.{Allowed, NotAllowed}
+use Rattle.table.specs.declared.geometry.Geometry.{Geometry}
+use Rattle.table.specs.declared.geometry.Made.{Made}
+use Rattle.table.specs.declared.geometry.Made.the-variants.{Allowed, NotAllowed}
 use Rattle.entries.specs.declared.check.Checked.{Checked}
 use Rattle.entries.specs.declared.check.Checked.the-variants.{Passed, Failed}
-use Rattle.entries.specs.declared.answers.Refusal.{Refusal}
-use Rattle.entries.specs.Words.{sizeWord, sizeForm, nodesOf, itemsOf, framesOf, size-parts, nodes-size, items-size, frames-size}
-use Rattle.entries.specs.Forms.{form-facts, size-form}
-use Rattle.entries.specs.Geometry.{allowed, inRanges, wordsOf, Sized, sized, made-allowed, allowed-made}
-use Rattle.entries.specs.View.{View, view, live}
+use Rattle.table.specs.declared.answers.Refusal.{Refusal}
+use Rattle.table.specs.Words.{sizeWord, sizeForm, nodesOf, itemsOf, framesOf, size-parts, nodes-size, items-size, frames-size}
+use Rattle.table.specs.Forms.{form-facts, size-form}
+use Rattle.table.specs.Geometry.{allowed, inRanges, wordsOf, Sized, sized, made-allowed, allowed-made}
+use Rattle.table.specs.View.{View, view, live}
 use Rattle.entries.specs.Sound.{sound}
 use Rattle.entries.specs.Check.{madeOf, lengthOf, sizesOf, soundOf, faultOf, sizes-passed}
 use Rattle.entries.specs.Back.{Pair, backNumber, kind-pair, pair-only}

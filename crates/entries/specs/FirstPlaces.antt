@@ -10,7 +10,7 @@ use lib.Dec.{eqb}
 use lib.Arith.{digits-mod}
 use borrow.Author.Tests.{eqb-true, eq-eqb, ne-eqb}
 use Rattle.counting.specs.Tests.{by-cases}
-use Rattle.entries.specs.Words.{sharedCK1, sharedCK2, invalid}
+use Rattle.table.specs.Words.{sharedCK1, sharedCK2, invalid}
 use Rattle.counting.specs.Counting.{sum, count, one}
 use Rattle.entries.specs.Frames.{frameOf}
 use Rattle.entries.specs.Kinds.{cleanCode}

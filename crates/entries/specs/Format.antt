@@ -7,15 +7,15 @@ use mathlib.Core.List.{List, [], _∷_, _++_, map}
 use lib.Dec.{eqb, leb}
 use lib.ListN.{length}
 use borrow.Author.Tests.{eq-eqb, ne-eqb, le-leb, lt-leb}
-use Rattle.entries.specs.declared.geometry.Geometry.{Geometry}
-use Rattle.entries.specs.declared.geometry.Made.{Made}
-use Rattle.entries.specs.declared.geometry.Made.the-variants.{Allowed, NotAllowed}
-use Rattle.entries.specs.declared.answers.Refusal.the-variants.{EmptyOrShort, NoGeometry}
-use Rattle.entries.specs.Words.{invalid, sharedCK1, sharedCK2, markWord}
-use Rattle.entries.specs.Geometry.{geometryOf, wordsOf}
-use Rattle.entries.specs.Stores.{Change, stateTo, valueTo, keptTo, Store, sizeStore, markStore, entryStore, runs, Stored, StoredIn, stored-as, nested-flat, stored-then}
-use Rattle.entries.specs.Pass.{pass}
-use Rattle.entries.specs.Answers.{Plan, refuse, carry}
+use Rattle.table.specs.declared.geometry.Geometry.{Geometry}
+use Rattle.table.specs.declared.geometry.Made.{Made}
+use Rattle.table.specs.declared.geometry.Made.the-variants.{Allowed, NotAllowed}
+use Rattle.table.specs.declared.answers.Refusal.the-variants.{EmptyOrShort, NoGeometry}
+use Rattle.table.specs.Words.{invalid, sharedCK1, sharedCK2, markWord}
+use Rattle.table.specs.Geometry.{geometryOf, wordsOf}
+use Rattle.table.specs.Stores.{Change, stateTo, valueTo, keptTo, Store, sizeStore, markStore, entryStore, runs, Stored, StoredIn, stored-as, nested-flat, stored-then}
+use Rattle.table.specs.Pass.{pass}
+use Rattle.table.specs.Answers.{Plan, refuse, carry}
 
 -- ---- the stores
 

@@ -6,9 +6,9 @@ use native.Mathlib.Omega.{arith}
 use lib.Dec.{eqb, leb}
 use borrow.Author.Tests.{eq-eqb, ne-eqb}
 use Rattle.counting.specs.Counting.{every, sum}
-use Rattle.entries.specs.declared.geometry.Geometry.{Geometry}
-use Rattle.entries.specs.Words.{currentOf, keptOf, stateWord, current-state, kept-state}
-use Rattle.entries.specs.View.{View}
+use Rattle.table.specs.declared.geometry.Geometry.{Geometry}
+use Rattle.table.specs.Words.{currentOf, keptOf, stateWord, current-state, kept-state}
+use Rattle.table.specs.View.{View}
 
 -- ---- the frame rule: how many sets, the set of an item, the frames of a set
 

@@ -5,9 +5,9 @@ use Prim.Native.Nat.{ℕ, _+_, _<_}
 use native.Mathlib.Omega.{arith}
 use lib.Dec.{eqb}
 use borrow.Author.Tests.{eqb-true, not-true}
-use Rattle.entries.specs.Words.{shared, owner, modified, sharedCK1, sharedCK2, precommit1, precommit2, invCK1, invCK2}
+use Rattle.table.specs.Words.{shared, owner, modified, sharedCK1, sharedCK2, precommit1, precommit2, invCK1, invCK2}
 use Rattle.counting.specs.Tests.{both, and-both, either}
-use Rattle.entries.specs.View.{View, current, kept}
+use Rattle.table.specs.View.{View, current, kept}
 use Rattle.counting.specs.Counting.{count, only}
 use Rattle.counting.specs.Values.{values-equal, values-unseen}
 use Rattle.entries.specs.Tally.{Counts, has, hasKept, copy, keep, countsOf}

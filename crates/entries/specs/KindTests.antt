@@ -5,9 +5,9 @@ use Prim.Native.Nat.{ℕ, _+_, _<_}
 use native.Mathlib.Omega.{arith}
 use lib.Dec.{eqb}
 use borrow.Author.Tests.{eq-eqb}
-use Rattle.entries.specs.Words.{shared, owner, modified, sharedCK1, sharedCK2, precommit1, precommit2, invCK1, invCK2}
+use Rattle.table.specs.Words.{shared, owner, modified, sharedCK1, sharedCK2, precommit1, precommit2, invCK1, invCK2}
 use Rattle.counting.specs.Tests.{no-both, both, and-both, or-left, or-right}
-use Rattle.entries.specs.View.{View, live, current, kept}
+use Rattle.table.specs.View.{View, live, current, kept}
 use Rattle.counting.specs.Counting.{count, Only, only-counts}
 use Rattle.counting.specs.Values.{equal-values, unseen-values}
 use Rattle.entries.specs.Tally.{Counts, has, hasKept, copy, keep, countsOf}

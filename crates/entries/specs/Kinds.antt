@@ -6,9 +6,9 @@ use Prim.Native.Nat.{ℕ, _<_}
 use native.Mathlib.Omega.{arith}
 use lib.Dec.{eqb}
 use borrow.Author.Tests.{eqb-true, eqb-false, eq-eqb, ne-eqb, not-true, not-false}
-use Rattle.entries.specs.Words.{shared, owner, modified, sharedCK1, sharedCK2, precommit1, precommit2, invCK1, invCK2}
+use Rattle.table.specs.Words.{shared, owner, modified, sharedCK1, sharedCK2, precommit1, precommit2, invCK1, invCK2}
 use Rattle.counting.specs.Tests.{both, and-both, and-no-right}
-use Rattle.entries.specs.View.{View, live, current, kept}
+use Rattle.table.specs.View.{View, live, current, kept}
 use Rattle.counting.specs.Counting.{Only}
 use Rattle.entries.specs.Tally.{has, hasKept, copy, keep}
 

@@ -1,15 +1,4 @@
--- The definitions that the contracts of `entries` cite, and the laws that every call's proof leans on.
-pub mod Words
-pub mod Forms
-pub mod Geometry
-pub mod Changes
-pub mod Stores
-pub mod View
-pub mod Puts
-pub mod ViewAfter
-pub mod Via
-pub mod Pass
-pub mod PassLeaves
+-- The entries of a table: frames in use, soundness, the table checks with their facts; Format, Check and Stretch.
 pub mod Frames
 pub mod Tally
 pub mod Items
@@ -17,12 +6,10 @@ pub mod TallyLoop
 pub mod Sound
 pub mod MarksLoop
 pub mod Check
-pub mod Answers
 pub mod Kinds
 pub mod Codes
 pub mod KindFacts
 pub mod KindTests
-pub mod Copies
 pub mod Back
 pub mod Update
 pub mod Sharers
@@ -30,6 +17,6 @@ pub mod SoundFacts
 pub mod CheckFacts
 pub mod Unread
 pub mod Format
-pub mod Stretch
 pub mod FirstPlaces
 pub mod FormatTheorem
+pub mod Stretch

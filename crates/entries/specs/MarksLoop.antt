@@ -3,13 +3,13 @@ use mathlib.Core.Path.{_≡_, refl, ap, _∙_}
 use mathlib.Core.Bool.{Bool, true, not, cond, _&&_}
 use Prim.Native.Nat.{ℕ, _+_, _≤_}
 use native.Mathlib.Omega.{arith}
-use Rattle.entries.specs.Words.{markForm, phaseOf, numberOf}
+use Rattle.table.specs.Words.{markForm, phaseOf, numberOf}
 use lib.Dec.{eqb}
-use Rattle.entries.specs.View.{View}
+use Rattle.table.specs.View.{View}
 use Rattle.counting.specs.Counting.{every, every-none, every-next}
 use Rattle.counting.specs.Values.{metOf, noValues, values-none, values-next}
 use Rattle.entries.specs.Sound.{marksForm, phasesOf, pointsOf, marksAgree, nodesSound, itemsSound, sound}
-use Rattle.entries.specs.declared.geometry.Geometry.{Geometry}
+use Rattle.table.specs.declared.geometry.Geometry.{Geometry}
 use Rattle.entries.specs.declared.marks.Marks.{Marks}
 
 pub record Marked (v : View) (n : ℕ) (m : Marks) : Type 0 where

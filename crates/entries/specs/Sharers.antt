@@ -7,8 +7,8 @@ use native.Mathlib.Omega.{arith}
 use native.Mathlib.Decide.{ℕ-discrete}
 use lib.Dec.{eqb}
 use borrow.Author.Tests.{ne-eqb}
-use Rattle.entries.specs.Words.{shared, owner, modified, sharedCK1, sharedCK2, precommit1, precommit2, invCK1, invCK2}
-use Rattle.entries.specs.View.{View, live, current, kept}
+use Rattle.table.specs.Words.{shared, owner, modified, sharedCK1, sharedCK2, precommit1, precommit2, invCK1, invCK2}
+use Rattle.table.specs.View.{View, live, current, kept}
 use Rattle.counting.specs.Counting.{Only, only-same}
 use Rattle.entries.specs.Tally.{has, hasKept, copy, keep}
 use Rattle.entries.specs.Kinds.{cleanCode, ownerCode, createdCode, Clean, Saved, Owned, modified-at, owner-at, Kind, clean, dirty, created, copy-live, copy-code, copy-at}

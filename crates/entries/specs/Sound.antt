@@ -8,9 +8,9 @@ use borrow.Author.Tests.{eq-eqb, ne-eqb}
 use Rattle.counting.specs.declared.values.Values.{Values}
 use Rattle.counting.specs.Counting.{every}
 use Rattle.counting.specs.Values.{valuesOf}
-use Rattle.entries.specs.declared.geometry.Geometry.{Geometry}
-use Rattle.entries.specs.Words.{stateForm, markForm, phaseOf, numberOf}
-use Rattle.entries.specs.View.{View, live}
+use Rattle.table.specs.declared.geometry.Geometry.{Geometry}
+use Rattle.table.specs.Words.{stateForm, markForm, phaseOf, numberOf}
+use Rattle.table.specs.View.{View, live}
 use Rattle.entries.specs.Frames.{framesFit}
 use Rattle.entries.specs.Tally.{countsOf}
 use Rattle.entries.specs.Items.{itemTest}

@@ -8,9 +8,9 @@ use borrow.Author.Tests.{eqb-true, eq-eqb, ltb-true, lt-ltb, leb-true, le-leb}
 use Rattle.counting.specs.Tests.{both, and-both, given, implies}
 use Rattle.counting.specs.Counting.{every, every-at, every-all}
 use Rattle.counting.specs.Values.{values-equal, equal-values, values-seen}
-use Rattle.entries.specs.declared.geometry.Geometry.{Geometry}
-use Rattle.entries.specs.Words.{stateForm, markForm, phaseOf, numberOf}
-use Rattle.entries.specs.View.{View, live}
+use Rattle.table.specs.declared.geometry.Geometry.{Geometry}
+use Rattle.table.specs.Words.{stateForm, markForm, phaseOf, numberOf}
+use Rattle.table.specs.View.{View, live}
 use Rattle.entries.specs.Frames.{setsOf, setFrames, used, framesFit}
 use Rattle.entries.specs.Sound.{marksForm, phasesOf, pointsOf, marksAgree, statesForm, nodeSound, nodesSound, itemSound, itemsSound, sound}
 use Rattle.entries.specs.Kinds.{Kind}

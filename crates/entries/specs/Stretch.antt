@@ -10,18 +10,18 @@ use lib.Dec.{leb}
 use lib.ListN.{length, take, drop}
 use borrow.Author.Tests.{le-leb, lt-leb}
 use Rattle.counting.specs.Tests.{by-cases}
-use Rattle.entries.specs.declared.geometry.Geometry.{Geometry}
+use Rattle.table.specs.declared.geometry.Geometry.{Geometry}
 use Rattle.entries.specs.declared.check.Checked.{Checked}
 use Rattle.entries.specs.declared.check.Checked.the-variants.{Passed, Failed}
-use Rattle.entries.specs.declared.answers.Refusal.{Refusal}
-use Rattle.entries.specs.declared.answers.Refusal.the-variants.{NoNode}
-use Rattle.entries.specs.declared.answers.Answer.the-variants.{Done}
+use Rattle.table.specs.declared.answers.Refusal.{Refusal}
+use Rattle.table.specs.declared.answers.Refusal.the-variants.{NoNode}
+use Rattle.table.specs.declared.answers.Answer.the-variants.{Done}
 use Rattle.entries.specs.declared.stretch.Span.{Span}
 use Rattle.entries.specs.declared.stretch.Span.the-variants.{Entries, Refused}
-use Rattle.entries.specs.Geometry.{entryWords, entryAt, wordsOf}
+use Rattle.table.specs.Geometry.{entryWords, entryAt, wordsOf}
 use Rattle.entries.specs.Check.{sizesOf, faultOf}
 use Rattle.entries.specs.CheckFacts.{sizes-facts}
-use Rattle.entries.specs.Answers.{Plan, refuse, nothingLeft, carry, Told, told-yes}
+use Rattle.table.specs.Answers.{Plan, refuse, nothingLeft, carry, Told, told-yes}
 
 -- ---- Check: "the table checks"
 

@@ -4,7 +4,7 @@ use mathlib.Core.Bool.{Bool, not, _&&_}
 use Prim.Native.Nat.{ℕ, _<_}
 use lib.Dec.{eqb}
 use lib.ListN.{getD, length}
-use Rattle.entries.specs.View.{Entry, View, live, current, kept}
+use Rattle.table.specs.View.{Entry, View, live, current, kept}
 use Rattle.counting.specs.Counting.{count}
 use Rattle.counting.specs.Values.{valuesOf}
 use Rattle.counting.specs.declared.values.Values.{Values}

@@ -9,7 +9,7 @@ use lib.Dec.{eqb, lit<}
 use lib.ListN.{getD, set, length, replicate, length-set, getD-replicate}
 use lib.Seq.{getD-set-same, getD-set-other}
 use borrow.Author.Tests.{eq-eqb, ne-eqb}
-use Rattle.entries.specs.View.{View, live, current, kept}
+use Rattle.table.specs.View.{View, live, current, kept}
 use Rattle.counting.specs.Counting.{count, one, count-none, count-next, count-le}
 use Rattle.entries.specs.Tally.{Looked, Tallied, tallied, countsOf, has, hasKept, copy, keep}
 use Rattle.entries.specs.Items.{itemTest}

@@ -8,9 +8,9 @@ use Rattle.counting.specs.declared.values.Values.{Values}
 use Rattle.counting.specs.Tests.{both, by-cases}
 use Rattle.counting.specs.Counting.{every-ext, sum-ext, count, count-ext}
 use Rattle.counting.specs.Values.{valuesOf}
-use Rattle.entries.specs.declared.geometry.Geometry.{Geometry}
-use Rattle.entries.specs.Words.{stateForm, markForm, phaseOf, numberOf}
-use Rattle.entries.specs.View.{Entry, View, live, current, kept}
+use Rattle.table.specs.declared.geometry.Geometry.{Geometry}
+use Rattle.table.specs.Words.{stateForm, markForm, phaseOf, numberOf}
+use Rattle.table.specs.View.{Entry, View, live, current, kept}
 use Rattle.entries.specs.Frames.{setsOf, setOf, setFrames, framesIn, framesAt, used, framesFit}
 use Rattle.entries.specs.Tally.{Counts, countsOf, has, hasKept, copy, keep}
 use Rattle.entries.specs.Items.{itemTest}

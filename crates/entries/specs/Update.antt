@@ -7,9 +7,9 @@ use native.Mathlib.Omega.{arith}
 use native.Mathlib.Decide.{ℕ-discrete}
 use lib.Dec.{eqb}
 use borrow.Author.Tests.{eq-eqb, ne-eqb}
-use Rattle.entries.specs.Words.{owner, modified}
+use Rattle.table.specs.Words.{owner, modified}
 use Rattle.counting.specs.Tests.{and-both, or-left}
-use Rattle.entries.specs.View.{View, live, current, kept}
+use Rattle.table.specs.View.{View, live, current, kept}
 use Rattle.counting.specs.Counting.{count, one, count-change, Only, only-same}
 use Rattle.entries.specs.Tally.{has, hasKept, copy}
 use Rattle.entries.specs.Kinds.{Owned, owner-at, has-live, has-copy}

@@ -2,15 +2,15 @@
 ghost use mathlib.Core.Path.{_≡_};
 ghost use mathlib.Core.List.{map};
 ghost use Prim.Native.Nat.{_<_};
-ghost use Rattle.entries.specs.Stores.{Stored, StoredIn, entryStore, runs};
-ghost use Rattle.entries.specs.Answers.{Meets};
+ghost use Rattle.table.specs.Stores.{Stored, StoredIn, entryStore, runs};
+ghost use Rattle.table.specs.Answers.{Meets};
 ghost use Rattle.entries.specs.Format.{firstPlace, firstEntry, firstMark, firstEntries, formatStores, formatOf};
-use crate::answers::Answer;
-use crate::answers::Refusal;
-use crate::geometry::Geometry;
-use crate::geometry::Made;
-use crate::stores;
-use crate::words;
+use table::answers::Answer;
+use table::answers::Refusal;
+use table::geometry::Geometry;
+use table::geometry::Made;
+use table::stores;
+use table::words;
 
 // The current place of an item at a node: Shared-CK1 on node 2b mod N, Shared-CK2 on the next.
 fn first_place(g: Geometry, node: u8, item: u16) -> u8

@@ -2,8 +2,8 @@
 ghost use mathlib.Core.Path.{_≡_};
 ghost use Prim.Native.Nat.{_≤_};
 ghost use Rattle.entries.specs.Frames.{setsOf, setOf, setFrames, frameOf, framesIn, framesAt, used, framesFit};
-ghost use Rattle.entries.specs.View.{view};
-use crate::geometry::Geometry;
+ghost use Rattle.table.specs.View.{view};
+use table::geometry::Geometry;
 
 // How many sets a node's frames are.
 pub fn sets(g: Geometry) -> u8
@@ -40,8 +40,8 @@ fn frame_of(place: u8) -> usize
 fn frames_in(state: u64) -> usize
     ensures { λ r. ⌜ (r ≡ framesIn state) × (r ≤ 2) ⌝ }
 {
-    let current = crate::words::current_of(state);
-    let kept = crate::words::kept_of(state);
+    let current = table::words::current_of(state);
+    let kept = table::words::kept_of(state);
     frame_of(current) + frame_of(kept)
 }
 
@@ -51,7 +51,7 @@ fn frames_at(table: &[u64], g: Geometry, node: u8, set: u8, item: u16) -> usize
 {
     let own = set_of(g, item);
     if own == set {
-        let state = crate::stores::state_at(table, g, node, item);
+        let state = table::stores::state_at(table, g, node, item);
         return frames_in(state);
     }
     0

@@ -1,15 +1,15 @@
 // Whether an item is clean, dirty or created, by its tally.
 ghost use mathlib.Core.Path.{_≡_};
 ghost use Prim.Native.Nat.{_<_};
-ghost use Rattle.entries.specs.Words.{shared};
-ghost use Rattle.entries.specs.View.{view};
+ghost use Rattle.table.specs.Words.{shared};
+ghost use Rattle.table.specs.View.{view};
 ghost use Rattle.entries.specs.Tally.{tallied};
 ghost use Rattle.entries.specs.Items.{isClean, isOwned, isSaved, isDirty, isCreated};
 ghost use Rattle.entries.specs.Sound.{itemSound};
-use crate::geometry::Geometry;
+use table::geometry::Geometry;
 use crate::tally;
 use crate::tally::Tally;
-use crate::words;
+use table::words;
 
 // The codes, as places of the tally.
 const SHARED: usize = words::SHARED as usize;

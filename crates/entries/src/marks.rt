@@ -1,12 +1,12 @@
 // The marks: their forms, and whether the live ones agree.
 ghost use mathlib.Core.Path.{_≡_};
 ghost use Prim.Native.Nat.{_+_};
-ghost use Rattle.entries.specs.View.{view};
+ghost use Rattle.table.specs.View.{view};
 ghost use Rattle.entries.specs.Sound.{marksAgree};
 ghost use Rattle.entries.specs.MarksLoop.{Marked};
-use crate::geometry::Geometry;
-use crate::stores;
-use crate::words;
+use table::geometry::Geometry;
+use table::stores;
+use table::words;
 use counting::values::Values;
 
 // Whether all have their form; the phases and the point numbers of the live ones.

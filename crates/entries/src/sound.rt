@@ -1,13 +1,13 @@
 // Whether a table is sound. Of a dead node nothing but the mark is read.
 ghost use mathlib.Core.Path.{_≡_};
-ghost use Rattle.entries.specs.View.{view};
+ghost use Rattle.table.specs.View.{view};
 ghost use Rattle.entries.specs.Sound.{statesForm, nodeSound, nodesSound, itemsSound, sound};
 use crate::frames;
-use crate::geometry::Geometry;
+use table::geometry::Geometry;
 use crate::items;
 use crate::marks;
-use crate::stores;
-use crate::words;
+use table::stores;
+use table::words;
 
 // Whether each state word of a node has its form.
 pub fn states_form(table: &[u64], g: Geometry, node: u8) -> bool

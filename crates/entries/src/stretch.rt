@@ -2,14 +2,14 @@
 ghost use mathlib.Core.Path.{_≡_};
 ghost use Prim.Native.Nat.{_≤_};
 ghost use lib.ListN.{length};
-ghost use Rattle.entries.specs.Answers.{Told, numbersAt};
+ghost use Rattle.table.specs.Answers.{Told, numbersAt};
 ghost use Rattle.entries.specs.Stretch.{stretchOf, stretchPart, Spanned};
-use crate::answers;
-use crate::answers::Answer;
-use crate::answers::Refusal;
+use table::answers;
+use table::answers::Answer;
+use table::answers::Refusal;
 use crate::check;
 use crate::check::Checked;
-use crate::geometry::Geometry;
+use table::geometry::Geometry;
 
 // Where a node's entries lie, or why they are not given.
 pub enum Span {

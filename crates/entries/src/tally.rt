@@ -1,12 +1,12 @@
 // What is counted of one item over the live nodes: places by their code, and values that should be equal.
 ghost use Prim.Native.Nat.{_+_};
 ghost use Rattle.counting.specs.Counting.{Counted};
-ghost use Rattle.entries.specs.View.{view};
+ghost use Rattle.table.specs.View.{view};
 ghost use Rattle.entries.specs.Tally.{Looked, Tallied};
 ghost use Rattle.entries.specs.TallyLoop.{Roomy, Entered};
-use crate::geometry::Geometry;
-use crate::stores;
-use crate::words;
+use table::geometry::Geometry;
+use table::stores;
+use table::words;
 use counting::values::Values;
 
 // What a node holds of an item.

@@ -2,7 +2,7 @@
 ghost use Prim.Native.Nat.{_≤_};
 ghost use lib.ListN.{length};
 ghost use Rattle.io.specs.Counts.{Counts};
-use entries::answers::Numbers;
+use table::answers::Numbers;
 use libc::STDOUT_FILENO;
 
 // Puts bytes at a place of a line, as many as it has room for; answers the place after them.

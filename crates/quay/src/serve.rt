@@ -1,5 +1,5 @@
 // A step carried out on quay's table.
-use entries::answers::Answer;
+use table::answers::Answer;
 use steps::decode::Step;
 use steps::lines::Outcome;
 

@@ -1,6 +1,6 @@
 -- The numbers of a record's line: "A line: record counted from 0, answer (0 if carried out), value, stores."
-use Rattle.entries.specs.declared.answers.Numbers.{Numbers}
-use Rattle.entries.specs.Answers.{numbersOf}
+use Rattle.table.specs.declared.answers.Numbers.{Numbers}
+use Rattle.table.specs.Answers.{numbersOf}
 use Rattle.steps.specs.declared.lines.Outcome.{Outcome}
 use Rattle.steps.specs.declared.lines.Outcome.the-variants.{Answered, Malformed}
 

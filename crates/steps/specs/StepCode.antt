@@ -4,7 +4,7 @@ use mathlib.Core.Path.{_≡_, refl}
 use mathlib.Core.Bool.{Bool, true, false, _&&_, _||_}
 use lib.Dec.{eqb}
 use borrow.Author.Tests.{eq-eqb, ne-eqb}
-use Rattle.entries.specs.Words.{sizeForm, nodesOf, itemsOf, framesOf}
+use Rattle.table.specs.Words.{sizeForm, nodesOf, itemsOf, framesOf}
 use Rattle.steps.specs.declared.decode.Place.{Place}
 use Rattle.steps.specs.declared.decode.Place.the-variants.{Current, Kept}
 use Rattle.steps.specs.declared.decode.Lost.{Lost}

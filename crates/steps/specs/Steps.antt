@@ -2,7 +2,7 @@
 use Prim.Native.Nat.{ℕ, _/_, _%_, _^_}
 use mathlib.Core.Bool.{cond, _&&_, _||_}
 use lib.Dec.{eqb}
-use Rattle.entries.specs.Words.{sizeForm, nodesOf, itemsOf, framesOf}
+use Rattle.table.specs.Words.{sizeForm, nodesOf, itemsOf, framesOf}
 use Rattle.steps.specs.declared.decode.Place.{Place}
 use Rattle.steps.specs.declared.decode.Place.the-variants.{Current, Kept}
 use Rattle.steps.specs.declared.decode.Lost.{Lost}

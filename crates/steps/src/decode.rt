@@ -77,11 +77,11 @@ fn lost_of(first: u64) -> Lost
 fn format_step(first: u64, second: u64) -> Step
     ensures { λ r. ⌜ r ≡ formatStep first second ⌝ }
 {
-    if entries::words::size_form(first) & (second == 0) {
+    if table::words::size_form(first) & (second == 0) {
         return Step::Format {
-            nodes: entries::words::nodes_of(first),
-            items: entries::words::items_of(first),
-            frames: entries::words::frames_of(first),
+            nodes: table::words::nodes_of(first),
+            items: table::words::items_of(first),
+            frames: table::words::frames_of(first),
         };
     }
     Step::Malformed

@@ -1,8 +1,8 @@
 // The numbers of a record's line.
 ghost use mathlib.Core.Path.{_≡_};
 ghost use Rattle.steps.specs.Lines.{lineOf};
-use entries::answers::Answer;
-use entries::answers::Numbers;
+use table::answers::Answer;
+use table::answers::Numbers;
 
 // What came of a record: the answer of its call, or that it is malformed.
 pub enum Outcome {
@@ -15,7 +15,7 @@ pub fn line(outcome: Outcome) -> Numbers
     ensures { λ r. ⌜ r ≡ lineOf outcome ⌝ }
 {
     match outcome {
-        Outcome::Answered(answer) => entries::answers::numbers_of(answer),
+        Outcome::Answered(answer) => table::answers::numbers_of(answer),
         Outcome::Malformed => Numbers {
             answer: 18,
             value: 0,

@@ -1,5 +1,5 @@
 -- `check` meets its contract: a yes, or the refusal. Assumes nothing.
-use Rattle.entries.specs.Answers.{told-refused, told-yes}
+use Rattle.table.specs.Answers.{told-refused, told-yes}
 use Rattle.entries.specs.Stretch.{check-failed, check-passed}
 use borrow.Author.Needs.{needs}
 use Rattle.entries.proofs.check.check.Statement.{statement}

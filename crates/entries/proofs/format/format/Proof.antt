@@ -1,8 +1,8 @@
 -- `format` meets its contract: a plan for each way out. Assumes nothing.
 use mathlib.Core.Path.{sym, _∙_}
 use native.Mathlib.Omega.{arith}
-use Rattle.entries.specs.Geometry.{made-sized}
-use Rattle.entries.specs.Answers.{meets-refused, meets-done}
+use Rattle.table.specs.Geometry.{made-sized}
+use Rattle.table.specs.Answers.{meets-refused, meets-done}
 use Rattle.entries.specs.Format.{format-refused, format-short, format-carried}
 use borrow.Author.Needs.{needs}
 use Rattle.entries.proofs.format.format.Statement.{statement}

@@ -1,6 +1,6 @@
 -- `format_marks` meets its contract: the loop has stored the marks before `node`. Assumes nothing.
 use Prim.Native.Nat.{_≤_, _-_}
-use Rattle.entries.specs.Stores.{Stored, runs, loop-starts, loop-turns, loop-ends}
+use Rattle.table.specs.Stores.{Stored, runs, loop-starts, loop-turns, loop-ends}
 use Rattle.entries.specs.Format.{firstMark}
 use borrow.Author.Needs.{needs}
 use Rattle.entries.proofs.format.format_marks.Statement.{statement}

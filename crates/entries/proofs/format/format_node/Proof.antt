@@ -1,7 +1,7 @@
 -- `format_node` meets its contract: the loop has stored the entries before `item`. Assumes nothing.
 use Prim.Native.Nat.{_≤_, _-_}
 use mathlib.Core.List.{map}
-use Rattle.entries.specs.Stores.{Stored, entryStore, runs, loop-starts, loop-turns, loop-ends}
+use Rattle.table.specs.Stores.{Stored, entryStore, runs, loop-starts, loop-turns, loop-ends}
 use Rattle.entries.specs.Format.{firstEntry}
 use borrow.Author.Needs.{needs}
 use Rattle.entries.proofs.format.format_node.Statement.{statement}

@@ -5,7 +5,7 @@ use native.Mathlib.Omega.{arith}
 use borrow.Author.Needs.{needs}
 use Rattle.counting.specs.Counting.{every, every-none, every-next, every-ends}
 use lib.Dec.{leb}
-use Rattle.entries.specs.View.{view}
+use Rattle.table.specs.View.{view}
 use Rattle.entries.specs.Frames.{setsOf, setFrames, used, framesFit}
 use Rattle.entries.proofs.frames.frames_fit.Statement.{statement}
 use Rattle.entries.proofs.frames.frames_fit.Tie as tie

@@ -5,7 +5,7 @@ use native.Mathlib.Omega.{arith}
 use borrow.Author.Needs.{needs}
 use Rattle.counting.specs.Counting.{sum, sum-none, sum-next}
 use Rattle.entries.specs.Frames.{framesAt, used}
-use Rattle.entries.specs.View.{view}
+use Rattle.table.specs.View.{view}
 use Rattle.entries.proofs.frames.used_in.Statement.{statement}
 use Rattle.entries.proofs.frames.used_in.Tie as tie
 

@@ -1,7 +1,7 @@
 -- `marks::marks_met` meets its contract: the loop has met the marks before `node`. Assumes nothing.
 use Prim.Native.Nat.{_≤_, _-_}
 use borrow.Author.Needs.{needs}
-use Rattle.entries.specs.View.{view}
+use Rattle.table.specs.View.{view}
 use Rattle.entries.specs.MarksLoop.{Marked, marked-none, marked-all}
 use Rattle.entries.proofs.marks.marks_met.Statement.{statement}
 use Rattle.entries.proofs.marks.marks_met.Tie as tie

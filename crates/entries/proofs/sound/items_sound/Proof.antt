@@ -3,7 +3,7 @@ use Prim.Native.Nat.{_≤_, _-_}
 use mathlib.Core.Path.{_≡_}
 use borrow.Author.Needs.{needs}
 use Rattle.counting.specs.Counting.{every, every-none, every-next, every-ends}
-use Rattle.entries.specs.View.{view}
+use Rattle.table.specs.View.{view}
 use Rattle.entries.specs.Sound.{itemSound, itemsSound}
 use Rattle.entries.proofs.sound.items_sound.Statement.{statement}
 use Rattle.entries.proofs.sound.items_sound.Tie as tie

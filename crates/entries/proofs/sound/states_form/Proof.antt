@@ -3,8 +3,8 @@ use Prim.Native.Nat.{_≤_, _-_}
 use mathlib.Core.Path.{_≡_, ap, _∙_}
 use borrow.Author.Needs.{needs}
 use Rattle.counting.specs.Counting.{every, every-none, every-next, every-ends}
-use Rattle.entries.specs.Words.{stateForm}
-use Rattle.entries.specs.View.{view}
+use Rattle.table.specs.Words.{stateForm}
+use Rattle.table.specs.View.{view}
 use Rattle.entries.specs.Sound.{statesForm}
 use Rattle.entries.proofs.sound.states_form.Statement.{statement}
 use Rattle.entries.proofs.sound.states_form.Tie as tie

@@ -1,5 +1,5 @@
 -- `stretch_answer` meets its contract: a yes, or the refusal. Assumes nothing.
-use Rattle.entries.specs.Answers.{told-refused}
+use Rattle.table.specs.Answers.{told-refused}
 use Rattle.entries.specs.Stretch.{answer-refused, answer-yes}
 use borrow.Author.Needs.{needs}
 use Rattle.entries.proofs.stretch.stretch_answer.Statement.{statement}

@@ -1,6 +1,6 @@
 -- `stretch_number` meets its contract: the number of the answer. Assumes nothing.
 use mathlib.Core.Path.{ap, _∙_}
-use Rattle.entries.specs.declared.answers.Numbers.{Numbers}
+use Rattle.table.specs.declared.answers.Numbers.{Numbers}
 use borrow.Author.Needs.{needs}
 use Rattle.entries.proofs.stretch.stretch_number.Statement.{statement}
 use Rattle.entries.proofs.stretch.stretch_number.Tie as tie

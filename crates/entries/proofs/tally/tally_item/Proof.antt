@@ -1,7 +1,7 @@
 -- `tally::tally_item` meets its contract: the loop has tallied the nodes before `node`. Assumes nothing.
 use Prim.Native.Nat.{_≤_, _-_}
 use borrow.Author.Needs.{needs}
-use Rattle.entries.specs.View.{view}
+use Rattle.table.specs.View.{view}
 use Rattle.entries.specs.Tally.{Tallied}
 use Rattle.entries.specs.TallyLoop.{tallied-none, tallied-all}
 use Rattle.entries.proofs.tally.tally_item.Statement.{statement}

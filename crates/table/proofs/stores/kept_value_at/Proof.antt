@@ -1,0 +1,13 @@
+-- `kept_value_at` meets its contract: a word of the entry. Assumes nothing.
+use mathlib.Core.Path.{_∙_}
+use Rattle.table.specs.View.{kept-value-read}
+use borrow.Author.Needs.{needs}
+use Rattle.table.proofs.stores.kept_value_at.Statement.{statement}
+use Rattle.table.proofs.stores.kept_value_at.Tie as tie
+
+pub kept-value-at-spec : {M : Type 1} → statement M
+kept-value-at-spec =
+    tie.close
+    (tie.spec
+    (λ c κs. search needs)
+    (λ c. c .entry-word .ensures ∙ kept-value-read _ _ _ _))

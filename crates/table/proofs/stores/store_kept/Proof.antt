@@ -1,0 +1,17 @@
+-- `store_kept` meets its contract: one word, where and as the store says. Assumes nothing.
+use mathlib.Core.Path.{refl}
+use native.Mathlib.Omega.{arith}
+use borrow.Author.Needs.{needs}
+use Rattle.table.specs.Stores.{stored-one}
+use Rattle.table.proofs.stores.store_kept.Statement.{statement}
+use Rattle.table.proofs.stores.store_kept.Tie as tie
+
+pub store-kept-spec : {M : Type 1} → statement M
+store-kept-spec =
+    tie.close
+    (tie.spec
+    (λ c κs. search needs)
+    (λ c. search needs)
+    (λ c κs. search needs)
+    (λ c. search needs)
+    (λ c. stored-one _ _ (c .before .before .store .ensures) (omega arith) refl))
