@@ -6,9 +6,9 @@ ghost use Rattle.table.specs.View.{view};
 ghost use Rattle.entries.specs.Tally.{tallied};
 ghost use Rattle.entries.specs.Items.{isClean, isOwned, isSaved, isDirty, isCreated};
 ghost use Rattle.entries.specs.Sound.{itemSound};
-use table::geometry::Geometry;
 use crate::tally;
 use crate::tally::Tally;
+use table::geometry::Geometry;
 use table::words;
 
 // The codes, as places of the tally.

@@ -4,10 +4,10 @@ ghost use Prim.Native.Nat.{_+_};
 ghost use Rattle.table.specs.View.{view};
 ghost use Rattle.entries.specs.Sound.{marksAgree};
 ghost use Rattle.entries.specs.MarksLoop.{Marked};
+use counting::values::Values;
 use table::geometry::Geometry;
 use table::stores;
 use table::words;
-use counting::values::Values;
 
 // Whether all have their form; the phases and the point numbers of the live ones.
 pub struct Marks {

@@ -3,9 +3,9 @@ ghost use mathlib.Core.Path.{_≡_};
 ghost use Rattle.table.specs.View.{view};
 ghost use Rattle.entries.specs.Sound.{statesForm, nodeSound, nodesSound, itemsSound, sound};
 use crate::frames;
-use table::geometry::Geometry;
 use crate::items;
 use crate::marks;
+use table::geometry::Geometry;
 use table::stores;
 use table::words;
 

@@ -4,11 +4,11 @@ ghost use Prim.Native.Nat.{_≤_};
 ghost use lib.ListN.{length};
 ghost use Rattle.table.specs.Answers.{Told, numbersAt};
 ghost use Rattle.entries.specs.Stretch.{stretchOf, stretchPart, Spanned};
+use crate::check;
+use crate::check::Checked;
 use table::answers;
 use table::answers::Answer;
 use table::answers::Refusal;
-use crate::check;
-use crate::check::Checked;
 use table::geometry::Geometry;
 
 // Where a node's entries lie, or why they are not given.

@@ -4,10 +4,10 @@ ghost use Rattle.counting.specs.Counting.{Counted};
 ghost use Rattle.table.specs.View.{view};
 ghost use Rattle.entries.specs.Tally.{Looked, Tallied};
 ghost use Rattle.entries.specs.TallyLoop.{Roomy, Entered};
+use counting::values::Values;
 use table::geometry::Geometry;
 use table::stores;
 use table::words;
-use counting::values::Values;
 
 // What a node holds of an item.
 pub struct Held {

@@ -2,8 +2,8 @@
 ghost use Prim.Native.Nat.{_≤_};
 ghost use lib.ListN.{length};
 ghost use Rattle.io.specs.Counts.{Counts};
-use table::answers::Numbers;
 use libc::STDOUT_FILENO;
+use table::answers::Numbers;
 
 // Puts bytes at a place of a line, as many as it has room for; answers the place after them.
 fn put(line: &mut [u8], at: usize, bytes: &[u8]) -> usize

@@ -1,7 +1,7 @@
 // A step carried out on quay's table.
-use table::answers::Answer;
 use steps::decode::Step;
 use steps::lines::Outcome;
+use table::answers::Answer;
 
 // A limit that no list of stores reaches.
 const WHOLE: u64 = u64::MAX;

@@ -1,0 +1,3 @@
+// The calls of running programs and of checkpoints.
+pub mod admission;
+pub mod write;
