@@ -1,5 +1,27 @@
 -- The calls as plans: definitions, the ways of their code, and what every cut of them keeps.
 pub mod Admission
 pub mod Plans
+pub mod Transitions
+pub mod Read
+pub mod ReadCode
 pub mod Write
 pub mod WriteCode
+pub mod Places
+pub mod Home
+pub mod HomeCode
+pub mod HomeLaws
+pub mod Evict
+pub mod EvictCode
+pub mod Checkpoint
+pub mod Closing
+pub mod Open
+pub mod Commit
+pub mod Abandon
+pub mod ClosingCode
+pub mod Kept
+pub mod SoundTells
+pub mod FramesKept
+pub mod Written
+pub mod WriteEntry
+pub mod WriteVia
+pub mod WriteTheorem

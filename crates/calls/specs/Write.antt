@@ -6,28 +6,21 @@ use mathlib.Core.List.{List, [], _∷_, _++_, map}
 use lib.Dec.{eqb}
 use Rattle.table.specs.declared.geometry.Geometry.{Geometry}
 use Rattle.table.specs.declared.changes.Event.the-variants.{OtherWrites}
-use Rattle.table.specs.Words.{currentOf, keptOf, invalid, modified}
-use Rattle.table.specs.Changes.{changeOf, checkpointOf, keep}
-use Rattle.table.specs.Stores.{Store, Change, entryStore, stateTo, valueTo, keptTo}
-use Rattle.table.specs.View.{Entry, View, current, kept}
+use Rattle.table.specs.Words.{currentOf, keptOf, modified}
+use Rattle.table.specs.Changes.{checkpointOf}
+use Rattle.table.specs.Stores.{Store, Change, entryStore, stateTo, valueTo}
+use Rattle.table.specs.View.{Entry, View, current}
 use Rattle.table.specs.Pass.{pass}
 use Rattle.table.specs.Answers.{Plan, carry}
 use Rattle.calls.specs.declared.admission.Admission.{Admission}
 use Rattle.calls.specs.Admission.{admissionOf, frameAdmission}
 use Rattle.calls.specs.Plans.{planBy}
+use Rattle.calls.specs.Transitions.{keepCopy, changeBy}
 
 -- ---- the stores
 
--- a Shared-CK copy of this number and value moves to the kept place as the Inv-CK of its number
-abbrev pub keepCopy : ℕ → ℕ → List Change
-keepCopy number value = keptTo value ∷ stateTo invalid number ∷ []
-
--- an entry whose current place becomes `next`
-unfoldable pub changeTo : ℕ → Entry → List Change
-changeTo next e = cond (eqb next keep) (keepCopy (checkpointOf (current e)) (e .value)) (cond (eqb next (current e)) [] (stateTo next (kept e) ∷ []))
-
 abbrev pub otherChange : Entry → List Change
-otherChange e = changeTo (changeOf (current e) OtherWrites) e
+otherChange e = changeBy OtherWrites e
 
 -- node k while another writes item b: the writer and dead nodes are passed over
 unfoldable pub otherChanges : View → ℕ → ℕ → ℕ → List Change

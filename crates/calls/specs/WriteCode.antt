@@ -8,31 +8,15 @@ use lib.Dec.{eqb}
 use lib.ListN.{length}
 use borrow.Author.Tests.{eq-eqb, ne-eqb}
 use Rattle.table.specs.declared.geometry.Geometry.{Geometry}
-use Rattle.table.specs.declared.changes.Event.the-variants.{OtherWrites}
 use Rattle.table.specs.Geometry.{wordsOf}
 use Rattle.table.specs.Words.{currentOf, modified}
-use Rattle.table.specs.Changes.{changeOf, checkpointOf, keep}
+use Rattle.table.specs.Changes.{checkpointOf}
 use Rattle.table.specs.Stores.{Stored, StoredIn, entryStore, stateTo, valueTo, stored-then, stored-three, stored-as, loop-turns}
-use Rattle.table.specs.View.{Entry, View, view, current, kept}
+use Rattle.table.specs.View.{Entry, View, view}
 use Rattle.table.specs.Pass.{pass}
 use Rattle.table.specs.PassLeaves.{pass-marks, pass-entry}
-use Rattle.calls.specs.Write.{keepCopy, changeTo, otherChange, otherChanges, otherStores, keptAfter, ownKeep, ownChanges, writeStores}
-
--- another node's entry: kept, as it was, or changed
-module _ (e : Entry) {next : ℕ} (h : next ≡ changeOf (current e) OtherWrites) where
-  pub other-keeps :
-      {number value : ℕ} → next ≡ keep → number ≡ checkpointOf (current e) → value ≡ e .value
-      → otherChange e ≡ keepCopy number value
-  unfolding changeTo
-  other-keeps k p q = rw (← h, eq-eqb next keep k, p, q)
-
-  pub other-stays : (next ≡ keep → ⊥) → next ≡ current e → otherChange e ≡ []
-  unfolding changeTo
-  other-stays k p = rw (← h, ne-eqb next keep k, eq-eqb next (current e) p)
-
-  pub other-changes : {k : ℕ} → (next ≡ keep → ⊥) → (next ≡ current e → ⊥) → k ≡ kept e → otherChange e ≡ stateTo next k ∷ []
-  unfolding changeTo
-  other-changes k p q = rw (← h, ne-eqb next keep k, ne-eqb next (current e) p, q)
+use Rattle.calls.specs.Transitions.{keepCopy}
+use Rattle.calls.specs.Write.{otherChange, otherChanges, otherStores, keptAfter, ownKeep, ownChanges, writeStores}
 
 -- the turn of a node
 module _ (v : View) (writer b k : ℕ) {mark : ℕ} (h : mark ≡ v .mark k) where

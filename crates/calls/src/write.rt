@@ -6,14 +6,13 @@ ghost use Rattle.table.specs.Geometry.{wordsOf};
 ghost use Rattle.table.specs.Stores.{Stored, StoredIn};
 ghost use Rattle.table.specs.View.{view};
 ghost use Rattle.table.specs.Answers.{Meets};
-ghost use Rattle.calls.specs.Write.{keepCopy, needsFrame, writeAdmission, otherChange, otherChanges, otherStores, keptAfter, ownKeep, ownChanges, writeStores, writeOf};
+ghost use Rattle.calls.specs.Write.{needsFrame, writeAdmission, otherChanges, otherStores, keptAfter, ownKeep, ownChanges, writeStores, writeOf};
 use crate::admission::Admission;
 use entries::check::Checked;
 use table::answers::Answer;
 use table::answers::Refusal;
 use table::changes::Event;
 use table::geometry::Geometry;
-use table::words::INVALID;
 use table::words::MODIFIED;
 
 // Whether a write at an entry takes a frame more.
@@ -44,41 +43,6 @@ fn admit_write(table: &[u64], g: Geometry, node: u64, item: u64) -> Admission
     }
 }
 
-// A recovery copy moves to the kept place: kept value, then state.
-fn keep_copy(
-    table: &mut [u64],
-    left: u64,
-    g: Geometry,
-    node: u8,
-    item: u16,
-    number: u8,
-    value: u64,
-) -> u64
-    ensures { λ r. ⌜ StoredIn g left node item (keepCopy number value) (now (table .entry)) (now (table .exit)) r ⌝ }
-{
-    let left = table::stores::store_kept(table, left, g, node, item, value);
-    table::stores::store_state(table, left, g, node, item, INVALID, number)
-}
-
-// Another node's entry, changed as "other writes".
-fn other_change(table: &mut [u64], left: u64, g: Geometry, node: u8, item: u16) -> u64
-    ensures { λ r. ⌜ StoredIn g left node item (otherChange (view g (now (table .entry)) .entry node item)) (now (table .entry)) (now (table .exit)) r ⌝ }
-{
-    let state = table::stores::state_at(table, g, node, item);
-    let current = table::words::current_of(state);
-    let next = table::changes::change(current, Event::OtherWrites);
-    if next == table::changes::KEEP {
-        let value = table::stores::value_at(table, g, node, item);
-        let number = table::changes::checkpoint_of(current);
-        return keep_copy(table, left, g, node, item, number, value);
-    }
-    if next == current {
-        return left;
-    }
-    let kept = table::words::kept_of(state);
-    table::stores::store_state(table, left, g, node, item, next, kept)
-}
-
 // The turn of one node: the writer and dead nodes are passed over.
 fn other_node(table: &mut [u64], left: u64, g: Geometry, writer: u8, item: u16, node: u8) -> u64
     ensures { λ r. ⌜ StoredIn g left node item (otherChanges (view g (now (table .entry))) writer item node) (now (table .entry)) (now (table .exit)) r ⌝ }
@@ -88,7 +52,7 @@ fn other_node(table: &mut [u64], left: u64, g: Geometry, writer: u8, item: u16, 
     if passed {
         return left;
     }
-    other_change(table, left, g, node, item)
+    crate::transitions::change_by(table, left, g, node, item, Event::OtherWrites)
 }
 
 // The other live nodes, ascending.
@@ -133,7 +97,7 @@ fn own_keep(
     if number == 0 {
         return left;
     }
-    keep_copy(table, left, g, node, item, number, old)
+    crate::transitions::keep_copy(table, left, g, node, item, number, old)
 }
 
 // The writer's entry: its own keep, then current value, then state Modified.

@@ -173,8 +173,8 @@ first-word g (suc limit) t a l k =
 format-off : (g : Geometry) → All (λ s. 0 ≢ placeOf g s) (runs firstMark (g .nodes) ++ firstEntries g)
 unfolding firstEntries
 format-off g =
-    all-then (all-runs firstMark (λ i. more (λ e. omega arith) none) (g .nodes))
-    (all-runs _ (λ k. more (λ e. omega arith) (more (λ e. omega arith) (more (λ e. omega arith) none))) (g .nodes * g .items))
+    all-then (all-runs firstMark (g .nodes) (λ i l. more (λ e. omega arith) none))
+    (all-runs _ (g .nodes * g .items) (λ k l. more (λ e. omega arith) (more (λ e. omega arith) (more (λ e. omega arith) none))))
 
 module _ (t : List ℕ) (n m f : ℕ) {g : Geometry} {x : ℕ} {ss : List Store} (accepted : formatOf t n m f ≡ carry g x ss) (limit : ℕ) (whole : length ss ≤ limit) where
   pub format-shows : Formatted g (view g (after g limit ss t))

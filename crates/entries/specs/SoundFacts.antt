@@ -1,15 +1,16 @@
 -- What a sound table is, as facts: forms, agreement of marks, frames, and the kind of each item. And back.
-use mathlib.Core.Path.{_≡_, sym, _∙_}
+use mathlib.Core.Path.{_≡_, sym, ap₂, _∙_}
 use mathlib.Core.Bool.{true, _&&_}
 use Prim.Native.Nat.{ℕ, _-_, _^_, _<_, _≤_}
 use native.Mathlib.Omega.{arith}
 use lib.Dec.{leb, ltb, eqb}
-use borrow.Author.Tests.{eqb-true, eq-eqb, ltb-true, lt-ltb, leb-true, le-leb}
+use borrow.Author.Tests.{eqb-true, eqb-false, not-true, eq-eqb, ltb-true, lt-ltb, leb-true, le-leb}
 use Rattle.counting.specs.Tests.{both, and-both, given, implies}
 use Rattle.counting.specs.Counting.{every, every-at, every-all}
 use Rattle.counting.specs.Values.{values-equal, equal-values, values-seen}
 use Rattle.table.specs.declared.geometry.Geometry.{Geometry}
-use Rattle.table.specs.Words.{stateForm, markForm, phaseOf, numberOf}
+use Rattle.table.specs.Words.{stateForm, markForm, markWord, phaseOf, numberOf}
+use Rattle.table.specs.Forms.{live-mark}
 use Rattle.table.specs.View.{View, live}
 use Rattle.entries.specs.Frames.{setsOf, setFrames, used, framesFit}
 use Rattle.entries.specs.Sound.{marksForm, phasesOf, pointsOf, marksAgree, statesForm, nodeSound, nodesSound, itemSound, itemsSound, sound}
@@ -96,3 +97,11 @@ module _ (g : Geometry) (v : View) where
         (every-all (g .items) (λ b. stateForm (v .entry n b .state)) (λ b k. s .forms n b l k t))
         (every-all (setsOf g) (λ s. leb (used g v n s) (setFrames g)) (λ x k. le-leb (used g v n x) (setFrames g) (s .frames n x l k t))))))
         (every-all (g .items) (itemSound g v phaseIn) (λ b k. rw facts-phase (kind-test v (g .nodes) b phase (s .items b k))))))
+
+-- "live marks agree in phase and number": they are one word
+pub sound-mark :
+    (g : Geometry) (v : View) (phase number : ℕ) → SoundTable g v phase number → (n : ℕ) → n < g .nodes → live v n ≡ true
+    → v .mark n ≡ markWord phase number
+sound-mark g v phase number s n l t =
+    live-mark (v .mark n) (s .marks n l) (eqb-false (v .mark n) 0 (not-true (eqb (v .mark n) 0) t)) .0
+    ∙ ap₂ markWord (s .phases n l t) (s .numbers n l t)

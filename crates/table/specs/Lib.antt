@@ -10,5 +10,7 @@ pub mod ViewAfter
 pub mod Via
 pub mod Pass
 pub mod PassLeaves
+pub mod PassTurns
+pub mod MarksPass
 pub mod Copies
 pub mod Answers

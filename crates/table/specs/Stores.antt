@@ -221,10 +221,10 @@ pub all-then : {P : Store → Type 0} {xs ys : List Store} → All P xs → All 
 all-then none b = b
 all-then (more p a) b = more p (all-then a b)
 
-pub all-runs : {P : Store → Type 0} (f : ℕ → List Store) → ((i : ℕ) → All P (f i)) → (n : ℕ) → All P (runs f n)
+pub all-runs : {P : Store → Type 0} (f : ℕ → List Store) (n : ℕ) → ((i : ℕ) → i < n → All P (f i)) → All P (runs f n)
 unfolding runs
-all-runs f h zero = none
-all-runs f h (suc n) = all-then (all-runs f h n) (h n)
+all-runs f zero h = none
+all-runs f (suc n) h = all-then (all-runs f n (λ i l. h i (omega arith))) (h n (omega arith))
 
 -- a word that no store is at
 pub after-off :

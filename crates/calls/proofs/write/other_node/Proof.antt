@@ -14,7 +14,7 @@ returns-2 : tie.Need-returns-2
 returns-2 c =
     let s = c .before .before in
     let i = s .before .before in
-    stored-as (ap (map (entryStore _ _)) (node-turned _ _ _ _ (i .before .mark-at .ensures) (i .if1 .left))) (s .other-change .ensures)
+    stored-as (ap (map (entryStore _ _)) (node-turned _ _ _ _ (i .before .mark-at .ensures) (i .if1 .left))) (s .change-by .ensures)
 
 pub other-node-spec : {M : Type 1} → statement M
 other-node-spec = tie.close (tie.spec (λ c κs. search needs) (λ c. search needs) returns (λ c κs. search needs) (λ c. search needs) returns-2)

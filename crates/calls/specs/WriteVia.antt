@@ -1,0 +1,145 @@
+-- Write on a view: every store keeps every live entry safe, and the last one leaves the table written.
+use Prim.Native.Nat.{ℕ, _+_, _≤_, _<_}
+use mathlib.Core.Path.{_≡_, refl, subst, _∙_}
+use mathlib.Core.Bool.{Bool, true, false, cond, _&&_, _||_}
+use mathlib.Core.List.{[]}
+use native.Mathlib.Omega.{arith}
+use native.Mathlib.Decide.{ℕ-discrete, decLt}
+use lib.Dec.{eqb}
+use borrow.Author.Tests.{eqb-false, eq-eqb, ne-eqb}
+use Rattle.table.specs.declared.geometry.Geometry.{Geometry}
+use Rattle.table.specs.Words.{stateForm, invalid, modified, precommit1}
+use Rattle.table.specs.View.{Entry, View, current}
+use Rattle.table.specs.Via.{Via, via-then, via-weaken}
+use Rattle.table.specs.Pass.{Steps, last, steps-map, Each, Passed, pass-via, entry-via}
+use Rattle.entries.specs.Frames.{setsOf, setOf, setFrames, used, set-there}
+use Rattle.entries.specs.SoundFacts.{SoundTable}
+use Rattle.calls.specs.Admission.{FrameAdmits}
+use Rattle.calls.specs.Write.{writeNeeds, otherChange, otherChanges, otherStores, ownChanges, writeStores}
+use Rattle.calls.specs.Kept.{Live, Kept, live-test}
+use Rattle.calls.specs.SoundTells.{no-precommit}
+use Rattle.calls.specs.FramesKept.{uses, used-no-more, used-more, used-elsewhere}
+use Rattle.calls.specs.Written.{away, Written}
+use Rattle.calls.specs.WriteEntry.{Safe, extra, other-steps, own-steps}
+
+safe-more : {e₀ e : Entry} {d d′ : ℕ} → d ≤ d′ → Safe e₀ d e → Safe e₀ d′ e
+safe-more h s = record { back = s .back; form = s .form; frames = omega arith }
+
+module _ (g : Geometry) (v : View) (phase number n b x : ℕ) (good : SoundTable g v phase number) (a : FrameAdmits g v n b (writeNeeds v n b)) where
+  -- the frame that the write may need, at its own entry only
+  abbrev extraAt : ℕ → ℕ → ℕ
+  extraAt k c = cond (eqb k n && eqb c b) (extra (v .entry n b)) 0
+
+  abbrev safe : ℕ → ℕ → Entry → Type 0
+  safe k c e = Live g v k → c < g .items → Safe (v .entry k c) (extraAt k c) e
+
+  formed-at : (k c : ℕ) → Live g v k → c < g .items → stateForm (v .entry k c .state) ≡ true
+  formed-at k c l h = good .forms k c (l .there) h (live-test g v k l)
+
+  own-live : Live g v n
+  own-live = record { there = a .place .node; marked = a .place .live }
+
+  -- no checkpoint is open, so no live entry is Precommit
+  plain-at : (k : ℕ) → Live g v k → current (v .entry k b) < precommit1
+  plain-at k l =
+      no-precommit g v phase number good (λ e. a .place .closed (good .phases n (a .place .node) (live-test g v n own-live) ∙ e))
+      k b (l .there) (a .place .item) (live-test g v k l)
+
+  begin : (k c : ℕ) → safe k c (v .entry k c)
+  begin k c l h = record { back = refl; form = formed-at k c l h; frames = omega arith }
+
+  -- another node's entry, or nothing
+  abbrev otherAfter : ℕ → Entry
+  otherAfter k = cond (eqb k n || eqb (v .mark k) 0) (v .entry k b) (away (v .entry k b) invalid (v .entry k b .value))
+
+  others-local : (k : ℕ) → k < g .nodes → Steps (safe k b) (λ e. e ≡ otherAfter k) (v .entry k b) (otherChanges v n b k)
+  unfolding otherChanges
+  others-local k hk = go (eqb k n) (eqb (v .mark k) 0) refl
+    where
+      go : (p q : Bool) → eqb (v .mark k) 0 ≡ q
+          → Steps (safe k b) (λ e. e ≡ cond (p || q) (v .entry k b) (away (v .entry k b) invalid (v .entry k b .value))) (v .entry k b)
+          (cond (p || q) [] (otherChange (v .entry k b)))
+      go true q h = last (begin k b) refl
+      go false true h = last (begin k b) refl
+      go false false h =
+          let l : Live g v k = record { there = hk; marked = eqb-false (v .mark k) 0 h } in
+          steps-map (λ e s _ _. safe-more (omega arith) s) (λ e z. z) (other-steps (v .entry k b) (formed-at k b l (a .place .item)) (plain-at k l))
+
+  own-local : Steps (safe n b) (λ e. e ≡ away (v .entry n b) modified x) (v .entry n b) (ownChanges (v .entry n b) x)
+  own-local =
+      let q : extraAt n b ≡ extra (v .entry n b) = rw (eq-eqb n n refl, eq-eqb b b refl) in
+      steps-map (λ e s _ _. safe-more (omega arith) s) (λ e z. z) (own-steps (v .entry n b) (formed-at n b own-live (a .place .item)) x)
+
+  pub write-via : Via g (Each safe v) (Written g n b x v) v (writeStores g v n b x)
+  unfolding writeStores otherStores
+  write-via = via-then
+      (pass-via g safe v (λ k. k) (λ k. b) (g .nodes) (λ k h. (h, a .place .item)) (λ k d _ _ e _. e) (λ k e. e ≡ otherAfter k)
+      (otherChanges v n b) v others-local (record { marks = refl; entries = begin }))
+      (λ u eu pu. via-weaken
+      (entry-via g safe v (λ e. e ≡ away (v .entry n b) modified x) n b (a .place .node) (a .place .item) u eu
+      {cs = ownChanges (v .entry n b) x} (rw (own-at u pu) own-local))
+      (λ w ew cw. record {
+        own = cw .good;
+        others = λ k l d. cw .rest k b (λ e _. d e) ∙ pu .good k (l .there) ∙ rw (ne-eqb k n d, ne-eqb (v .mark k) 0 (l .marked));
+        dead = λ k z d. cw .rest k b (λ e _. d e) ∙ dead-at u pu k z d;
+        rest = λ k c d. cw .rest k c (λ _ e. d e) ∙ pu .rest k c (λ _ _ _ e. d e);
+        marks = ew .marks;
+      }))
+    where
+      own-at : (u : View) → Passed (λ k. k) (λ k. b) (λ k e. e ≡ otherAfter k) v (g .nodes) u → u .entry n b ≡ v .entry n b
+      own-at u pu = pu .good n (a .place .node) ∙ rw (eq-eqb n n refl)
+
+      dead-at :
+          (u : View) → Passed (λ k. k) (λ k. b) (λ k e. e ≡ otherAfter k) v (g .nodes) u → (k : ℕ) → v .mark k ≡ 0 → (k ≡ n → ⊥)
+          → u .entry k b ≡ v .entry k b
+      dead-at u pu k z d =
+          elim (decLt k (g .nodes)) [
+            | yes l ↦ pu .good k l ∙ rw (ne-eqb k n d, eq-eqb (v .mark k) 0 z)
+            | no l ↦ pu .rest k b (λ m h e _. absurd (omega arith))
+          ]
+
+  -- a frame is free where one is needed
+  room : used g v n (setOf g b) + extra (v .entry n b) ≤ setFrames g
+  room = go (writeNeeds v n b) refl
+    where
+      go : (q : Bool) → writeNeeds v n b ≡ q → used g v n (setOf g b) + cond q 1 0 ≤ setFrames g
+      go true h = let r = a .room h in omega arith
+      go false h = let r = good .frames n (setOf g b) (a .place .node) (set-there g b) (live-test g v n own-live) in omega arith
+
+  -- what holds entry by entry keeps the frames of every node
+  pub safe-kept : (w : View) → Each safe v w → Kept g v w
+  safe-kept w s = record {
+    back = λ k c l h. s .entries k c l h .back;
+    forms = λ k c l h. s .entries k c l h .form;
+    frames = λ k t l h. elim (ℕ-discrete k n) [ yes e ↦ rw e (own-frames t h) | no d ↦ other-frames k t l h d ];
+    marks = s .marks;
+  }
+    where
+      unchanged : (k c : ℕ) → eqb k n && eqb c b ≡ false → Live g v k → c < g .items → uses g v w k c 0
+      unchanged k c q l h = let f = rw q at (s .entries k c l h .frames) in omega arith
+
+      sound-frames : (k t : ℕ) → Live g v k → t < setsOf g → used g v k t ≤ setFrames g
+      sound-frames k t l h = good .frames k t (l .there) h (live-test g v k l)
+
+      other-frames : (k t : ℕ) → Live g v k → t < setsOf g → (k ≡ n → ⊥) → used g w k t ≤ setFrames g
+      other-frames k t l h d =
+          let f = used-no-more g v w k t (λ c i. unchanged k c (rw (ne-eqb k n d)) l i) in
+          let m = sound-frames k t l h in
+          omega arith
+
+      own-others : (c : ℕ) → c < g .items → (c ≡ b → ⊥) → uses g v w n c 0
+      own-others c h d = unchanged n c (rw (eq-eqb n n refl, ne-eqb c b d)) own-live h
+
+      own-uses : uses g v w n b (extra (v .entry n b))
+      own-uses =
+          let q : extraAt n b ≡ extra (v .entry n b) = rw (eq-eqb n n refl, eq-eqb b b refl) in
+          let p = s .entries n b own-live (a .place .item) .frames in
+          omega arith
+
+      own-frames : (t : ℕ) → t < setsOf g → used g w n t ≤ setFrames g
+      own-frames t h = elim (ℕ-discrete (setOf g b) t) [
+        | yes e ↦ (let f = used-more g v w n b (extra (v .entry n b)) own-others (setOf g b) own-uses in
+            let u : used g w n (setOf g b) ≤ setFrames g = omega (arith, room) in
+            subst (λ t. used g w n t ≤ setFrames g) e u)
+        | no d ↦ (let f = used-elsewhere g v w n b 0 own-others t d in let m = sound-frames n t own-live h in omega arith)
+      ]
