@@ -18,6 +18,8 @@ pub mod Open
 pub mod Commit
 pub mod Abandon
 pub mod ClosingCode
+pub mod Create
+pub mod CreateCode
 pub mod Kept
 pub mod SoundTells
 pub mod FramesKept

@@ -3,6 +3,7 @@ pub mod abandon;
 pub mod admission;
 pub mod checkpoint;
 pub mod commit;
+pub mod create;
 pub mod evict;
 pub mod home;
 pub mod open;

@@ -32,9 +32,37 @@ fn formatted_after(answer: Answer, formatted: bool) -> bool {
     }
 }
 
-// A call other than format; none is served yet.
+// A call on a node's item.
+fn call_item(table: &mut [u64], step: Step) -> Outcome {
+    match step {
+        Step::Read { node, item } => Outcome::Answered(calls::read::read(table, node, item, WHOLE)),
+        Step::Write { node, item, value } => {
+            Outcome::Answered(calls::write::write(table, node, item, value, WHOLE))
+        }
+        Step::Evict { node, item, place } => {
+            Outcome::Answered(calls::evict::evict(table, node, item, place, WHOLE))
+        }
+        _ => Outcome::Malformed,
+    }
+}
+
+// A call on a checkpoint.
+fn call_checkpoint(table: &mut [u64], step: Step) -> Outcome {
+    match step {
+        Step::Open => Outcome::Answered(calls::open::open(table, WHOLE)),
+        Step::Create => Outcome::Answered(calls::create::create(table, WHOLE)),
+        Step::Commit => Outcome::Answered(calls::commit::commit(table, WHOLE)),
+        Step::Abandon => Outcome::Answered(calls::abandon::abandon(table, WHOLE)),
+        _ => Outcome::Malformed,
+    }
+}
+
+// A call other than format; Recover is not served yet.
 fn call(table: &mut [u64], step: Step) -> Outcome {
-    Outcome::Malformed
+    match step {
+        Step::Open | Step::Create | Step::Commit | Step::Abandon => call_checkpoint(table, step),
+        _ => call_item(table, step),
+    }
 }
 
 // Carries out a step.

@@ -1,12 +1,7 @@
 // A record's two words, decoded.
 ghost use mathlib.Core.Path.{_≡_};
 ghost use Rattle.steps.specs.Steps.{nodeOf, itemOf, placeOf, restOf, choiceOf, lostOf, formatStep, readStep, writeStep, evictStep, bareStep, recoverStep, stepOf};
-
-// The place that an Evict names.
-pub enum Place {
-    Current,
-    Kept,
-}
+use calls::places::Place;
 
 // The node that a Recover names, or that it names none.
 pub enum Lost {
