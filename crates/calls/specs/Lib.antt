@@ -27,3 +27,9 @@ pub mod Written
 pub mod WriteEntry
 pub mod WriteVia
 pub mod WriteTheorem
+pub mod SafeKept
+pub mod ReadDone
+pub mod ReadEntry
+pub mod ReadServer
+pub mod ReadVia
+pub mod ReadTheorem

@@ -78,8 +78,8 @@ fn leave_source(
 fn drop_shared(table: &mut [u64], left: u64, g: Geometry, place: Place, node: u8, item: u16) -> u64
     ensures { λ r. ⌜ Stored g left (sourceStores place node item (view g (now (table .entry)) .entry node item .state)) (now (table .entry)) (now (table .exit)) r ⌝ }
 {
-    let state = table::stores::state_at(table, g, node, item);
-    leave_source(table, left, g, place, node, item, state)
+    let word = table::stores::state_at(table, g, node, item);
+    leave_source(table, left, g, place, node, item, word)
 }
 
 // A copy goes home, then the source's state. All is chosen before the first store.

@@ -1,0 +1,62 @@
+-- THE THEOREM of Read: however an accepted read is cut, a roll back finds every recovery copy as it was. It answers the value that all live
+-- current copies have. And what a whole read leaves.
+use Prim.Native.Nat.{ℕ, _≤_}
+use mathlib.Core.Path.{_≡_, sym, subst}
+use mathlib.Core.List.{List}
+use lib.ListN.{length}
+use Rattle.table.specs.declared.geometry.Geometry.{Geometry}
+use Rattle.table.specs.Stores.{Store, after}
+use Rattle.table.specs.View.{View, view}
+use Rattle.table.specs.Via.{via-cut, via-whole}
+use Rattle.table.specs.Answers.{carry}
+use Rattle.entries.specs.SoundFacts.{phaseIn, numberIn}
+use Rattle.entries.specs.CheckFacts.{Accepted, accepted-facts}
+use Rattle.calls.specs.declared.admission.Admission.{Admission}
+use Rattle.calls.specs.Admission.{FrameAdmits, frame-admits}
+use Rattle.calls.specs.Plans.{planBy, plan-acted, Carried, acted-carried}
+use Rattle.calls.specs.Read.{fetches, readAdmission, readStores, readValue, readOf}
+use Rattle.calls.specs.Kept.{Kept}
+use Rattle.calls.specs.ReadDone.{Answered, ReadDone}
+use Rattle.calls.specs.ReadVia.{read-answers, read-via, safe-kept}
+
+-- the value of a call that was carried out
+acted-value :
+    (admits : Geometry → View → Admission) (value : Geometry → View → ℕ) (stores : Geometry → View → List Store) (t : List ℕ) {g : Geometry} {x : ℕ}
+    {ss : List Store} → planBy admits (λ g v. carry g (value g v) (stores g v)) t ≡ carry g x ss → x ≡ value g (view g t)
+acted-value admits value stores t {g} {x} {ss} e =
+    let a = plan-acted admits (λ g v. carry g (value g v) (stores g v)) t e in
+    let h = a .geometry in
+    let q : carry h (value h (view h t)) (stores h (view h t)) ≡ carry g x ss = a .plan in
+    let same : h ≡ g = cc in
+    let answer : value h (view h t) ≡ x = cc in
+    rw same at (sym answer)
+
+module _ (t : List ℕ) (n b : ℕ) {g : Geometry} {value : ℕ} {ss : List Store} (accepted : readOf t n b ≡ carry g value ss) where
+  carried : Carried (λ g v. readAdmission g v n b) (λ g v. readStores g v n b) t g ss
+  carried = acted-carried (λ g v. readAdmission g v n b) (λ g v. readValue g v n b) (λ g v. readStores g v n b) t accepted
+
+  value-is : value ≡ readValue g (view g t) n b
+  value-is = acted-value (λ g v. readAdmission g v n b) (λ g v. readValue g v n b) (λ g v. readStores g v n b) t accepted
+
+  facts : Accepted t g (phaseIn g (view g t)) (numberIn g (view g t))
+  facts = accepted-facts t g (carried .passed)
+
+  admits : FrameAdmits g (view g t) n b (fetches (view g t .entry n b))
+  admits = frame-admits g (view g t) n b (fetches (view g t .entry n b)) (carried .admitted)
+
+  -- after any number of its stores
+  pub read-keeps : (limit : ℕ) → Kept g (view g t) (view g (after g limit ss t))
+  read-keeps limit =
+      rw (carried .stores-are)
+      (safe-kept g (view g t) _ _ n b (facts .table) admits _
+      (via-cut t (facts .shape .long) (read-via g (view g t) _ _ n b (facts .table) admits) limit))
+
+  -- what it answers
+  pub read-value : Answered g n b (view g t) value
+  read-value = subst (Answered g n b (view g t)) (sym value-is) (read-answers g (view g t) _ _ n b (facts .table) admits)
+
+  -- after all of them
+  pub read-read : (limit : ℕ) → length ss ≤ limit → ReadDone g n b (view g t) (view g (after g limit ss t))
+  read-read limit all =
+      let l = rw (carried .stores-are) at all in
+      rw (carried .stores-are) (via-whole t (facts .shape .long) (read-via g (view g t) _ _ n b (facts .table) admits) limit l)
