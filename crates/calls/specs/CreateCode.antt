@@ -87,13 +87,3 @@ module _ (g : Geometry) (v : View) (b : ℕ) {o s : ℕ} (p : o ≡ ownerOf g v 
     pub item-taken : (h ≡ o → ⊥) → itemPlan g v b ≡ carry g 0 (takenStores g v b o h)
     unfolding itemPlan noPartner createItem partnerStores takenStores
     item-taken e = rw (← p, ← q, le-ltb s (g .nodes) l, ← r, ne-eqb h o e) refl
-
--- ---- the contract
-
--- "Answer 17, no stores, if none is left."
-pub meets-nothing : {p : Plan} (limit : ℕ) (t : List ℕ) → p ≡ nothingLeft → Meets p limit t t NothingLeft
-meets-nothing limit t h = rw h (record { answer = refl; numbers = refl; table = refl })
-
--- the same plan, written otherwise
-pub meets-as : {p q : Plan} {limit : ℕ} {t t′ : List ℕ} {r : Answer} → p ≡ q → Meets q limit t t′ r → Meets p limit t t′ r
-meets-as e m = rw e m

@@ -25,9 +25,9 @@ pub mod SoundTells
 pub mod FramesKept
 pub mod Written
 pub mod WriteEntry
+pub mod SafeKept
 pub mod WriteVia
 pub mod WriteTheorem
-pub mod SafeKept
 pub mod ReadDone
 pub mod ReadEntry
 pub mod ReadServer

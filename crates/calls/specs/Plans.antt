@@ -5,9 +5,11 @@ use mathlib.Core.List.{List}
 use native.Mathlib.Omega.{arith}
 use Rattle.table.specs.declared.geometry.Geometry.{Geometry}
 use Rattle.table.specs.declared.answers.Refusal.{Refusal}
+use Rattle.table.specs.declared.answers.Answer.{Answer}
+use Rattle.table.specs.declared.answers.Answer.the-variants.{NothingLeft}
 use Rattle.table.specs.Stores.{Store}
 use Rattle.table.specs.View.{View, view}
-use Rattle.table.specs.Answers.{Plan, refuse, carry}
+use Rattle.table.specs.Answers.{Plan, refuse, nothingLeft, carry, Meets}
 use Rattle.entries.specs.declared.check.Checked.{Checked}
 use Rattle.entries.specs.declared.check.Checked.the-variants.{Passed, Failed}
 use Rattle.entries.specs.Check.{faultOf}
@@ -82,3 +84,25 @@ acted-carried admits value stores t {g} {x} {ss} e =
     let same : h ≡ g = cc in
     let list : stores h (view h t) ≡ ss = cc in
     record { passed = rw same at (a .passed); admitted = rw same at (a .admitted); stores-are = rw same at (sym list) }
+
+-- and its value
+pub acted-value :
+    (admits : Geometry → View → Admission) (value : Geometry → View → ℕ) (stores : Geometry → View → List Store) (t : List ℕ) {g : Geometry} {x : ℕ}
+    {ss : List Store} → planBy admits (λ g v. carry g (value g v) (stores g v)) t ≡ carry g x ss → x ≡ value g (view g t)
+acted-value admits value stores t {g} {x} {ss} e =
+    let a = plan-acted admits (λ g v. carry g (value g v) (stores g v)) t e in
+    let h = a .geometry in
+    let q : carry h (value h (view h t)) (stores h (view h t)) ≡ carry g x ss = a .plan in
+    let same : h ≡ g = cc in
+    let answer : value h (view h t) ≡ x = cc in
+    rw same at (sym answer)
+
+-- ---- contracts
+
+-- the same plan, written otherwise
+pub meets-as : {p q : Plan} {limit : ℕ} {t t′ : List ℕ} {r : Answer} → p ≡ q → Meets q limit t t′ r → Meets p limit t t′ r
+meets-as e m = rw e m
+
+-- "Answer 17, no stores, if none is left."
+pub meets-nothing : {p : Plan} (limit : ℕ) (t : List ℕ) → p ≡ nothingLeft → Meets p limit t t NothingLeft
+meets-nothing limit t h = rw h (record { answer = refl; numbers = refl; table = refl })

@@ -75,7 +75,3 @@ module _ (g : Geometry) (n b limit : ℕ) {t : List ℕ} {state now value : ℕ}
       → Meets (carry g (readValue g (view g t) n b) (readStores g (view g t) n b)) limit t t′ (Done value (limit - left))
   unfolding readValue readStores
   read-fetched e p q r = meets-done limit (rw (← s, ← c, eq-eqb now invalid e, q, p) refl) r
-
--- the plan of an admitted read
-pub meets-as : {p q : Plan} {limit : ℕ} {t t′ : List ℕ} {r : Answer} → p ≡ q → Meets q limit t t′ r → Meets p limit t t′ r
-meets-as e m = rw e m

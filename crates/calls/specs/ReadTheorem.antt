@@ -13,23 +13,11 @@ use Rattle.entries.specs.SoundFacts.{phaseIn, numberIn}
 use Rattle.entries.specs.CheckFacts.{Accepted, accepted-facts}
 use Rattle.calls.specs.declared.admission.Admission.{Admission}
 use Rattle.calls.specs.Admission.{FrameAdmits, frame-admits}
-use Rattle.calls.specs.Plans.{planBy, plan-acted, Carried, acted-carried}
+use Rattle.calls.specs.Plans.{Carried, acted-carried, acted-value}
 use Rattle.calls.specs.Read.{fetches, readAdmission, readStores, readValue, readOf}
 use Rattle.calls.specs.Kept.{Kept}
 use Rattle.calls.specs.ReadDone.{Answered, ReadDone}
 use Rattle.calls.specs.ReadVia.{read-answers, read-via, safe-kept}
-
--- the value of a call that was carried out
-acted-value :
-    (admits : Geometry → View → Admission) (value : Geometry → View → ℕ) (stores : Geometry → View → List Store) (t : List ℕ) {g : Geometry} {x : ℕ}
-    {ss : List Store} → planBy admits (λ g v. carry g (value g v) (stores g v)) t ≡ carry g x ss → x ≡ value g (view g t)
-acted-value admits value stores t {g} {x} {ss} e =
-    let a = plan-acted admits (λ g v. carry g (value g v) (stores g v)) t e in
-    let h = a .geometry in
-    let q : carry h (value h (view h t)) (stores h (view h t)) ≡ carry g x ss = a .plan in
-    let same : h ≡ g = cc in
-    let answer : value h (view h t) ≡ x = cc in
-    rw same at (sym answer)
 
 module _ (t : List ℕ) (n b : ℕ) {g : Geometry} {value : ℕ} {ss : List Store} (accepted : readOf t n b ≡ carry g value ss) where
   carried : Carried (λ g v. readAdmission g v n b) (λ g v. readStores g v n b) t g ss

@@ -18,23 +18,14 @@ use Rattle.calls.specs.Admission.{FrameAdmits}
 use Rattle.calls.specs.Write.{writeNeeds, otherChange, otherChanges, otherStores, ownChanges, writeStores}
 use Rattle.calls.specs.Kept.{Live, Kept, live-test}
 use Rattle.calls.specs.SoundTells.{no-precommit}
-use Rattle.calls.specs.FramesKept.{uses, used-no-more, used-more, used-elsewhere}
+use Rattle.calls.specs.SafeKept.{safeAt, more-here, form-at, safe-begins, safe-with, safe-keeps}
 use Rattle.calls.specs.Written.{away, Written}
 use Rattle.calls.specs.WriteEntry.{Safe, extra, other-steps, own-steps}
 
-safe-more : {e₀ e : Entry} {d d′ : ℕ} → d ≤ d′ → Safe e₀ d e → Safe e₀ d′ e
-safe-more h s = record { back = s .back; form = s .form; frames = omega arith }
-
 module _ (g : Geometry) (v : View) (phase number n b x : ℕ) (good : SoundTable g v phase number) (a : FrameAdmits g v n b (writeNeeds v n b)) where
   -- the frame that the write may need, at its own entry only
-  abbrev extraAt : ℕ → ℕ → ℕ
-  extraAt k c = cond (eqb k n && eqb c b) (extra (v .entry n b)) 0
-
   abbrev safe : ℕ → ℕ → Entry → Type 0
-  safe k c e = Live g v k → c < g .items → Safe (v .entry k c) (extraAt k c) e
-
-  formed-at : (k c : ℕ) → Live g v k → c < g .items → stateForm (v .entry k c .state) ≡ true
-  formed-at k c l h = good .forms k c (l .there) h (live-test g v k l)
+  safe = safeAt g v n b (extra (v .entry n b))
 
   own-live : Live g v n
   own-live = record { there = a .place .node; marked = a .place .live }
@@ -46,7 +37,7 @@ module _ (g : Geometry) (v : View) (phase number n b x : ℕ) (good : SoundTable
       k b (l .there) (a .place .item) (live-test g v k l)
 
   begin : (k c : ℕ) → safe k c (v .entry k c)
-  begin k c l h = record { back = refl; form = formed-at k c l h; frames = omega arith }
+  begin = safe-begins g v n b (extra (v .entry n b)) phase number good
 
   -- another node's entry, or nothing
   abbrev otherAfter : ℕ → Entry
@@ -63,12 +54,12 @@ module _ (g : Geometry) (v : View) (phase number n b x : ℕ) (good : SoundTable
       go false true h = last (begin k b) refl
       go false false h =
           let l : Live g v k = record { there = hk; marked = eqb-false (v .mark k) 0 h } in
-          steps-map (λ e s _ _. safe-more (omega arith) s) (λ e z. z) (other-steps (v .entry k b) (formed-at k b l (a .place .item)) (plain-at k l))
+          steps-map (λ e s _ _. safe-with (omega arith) s) (λ e z. z) (other-steps (v .entry k b) (form-at g v n b (extra (v .entry n b)) phase number good k b l (a .place .item)) (plain-at k l))
 
   own-local : Steps (safe n b) (λ e. e ≡ away (v .entry n b) modified x) (v .entry n b) (ownChanges (v .entry n b) x)
   own-local =
-      let q : extraAt n b ≡ extra (v .entry n b) = rw (eq-eqb n n refl, eq-eqb b b refl) in
-      steps-map (λ e s _ _. safe-more (omega arith) s) (λ e z. z) (own-steps (v .entry n b) (formed-at n b own-live (a .place .item)) x)
+      let q = more-here g v n b (extra (v .entry n b)) in
+      steps-map (λ e s _ _. safe-with (omega arith) s) (λ e z. z) (own-steps (v .entry n b) (form-at g v n b (extra (v .entry n b)) phase number good n b own-live (a .place .item)) x)
 
   pub write-via : Via g (Each safe v) (Written g n b x v) v (writeStores g v n b x)
   unfolding writeStores otherStores
@@ -108,38 +99,4 @@ module _ (g : Geometry) (v : View) (phase number n b x : ℕ) (good : SoundTable
 
   -- what holds entry by entry keeps the frames of every node
   pub safe-kept : (w : View) → Each safe v w → Kept g v w
-  safe-kept w s = record {
-    back = λ k c l h. s .entries k c l h .back;
-    forms = λ k c l h. s .entries k c l h .form;
-    frames = λ k t l h. elim (ℕ-discrete k n) [ yes e ↦ rw e (own-frames t h) | no d ↦ other-frames k t l h d ];
-    marks = s .marks;
-  }
-    where
-      unchanged : (k c : ℕ) → eqb k n && eqb c b ≡ false → Live g v k → c < g .items → uses g v w k c 0
-      unchanged k c q l h = let f = rw q at (s .entries k c l h .frames) in omega arith
-
-      sound-frames : (k t : ℕ) → Live g v k → t < setsOf g → used g v k t ≤ setFrames g
-      sound-frames k t l h = good .frames k t (l .there) h (live-test g v k l)
-
-      other-frames : (k t : ℕ) → Live g v k → t < setsOf g → (k ≡ n → ⊥) → used g w k t ≤ setFrames g
-      other-frames k t l h d =
-          let f = used-no-more g v w k t (λ c i. unchanged k c (rw (ne-eqb k n d)) l i) in
-          let m = sound-frames k t l h in
-          omega arith
-
-      own-others : (c : ℕ) → c < g .items → (c ≡ b → ⊥) → uses g v w n c 0
-      own-others c h d = unchanged n c (rw (eq-eqb n n refl, ne-eqb c b d)) own-live h
-
-      own-uses : uses g v w n b (extra (v .entry n b))
-      own-uses =
-          let q : extraAt n b ≡ extra (v .entry n b) = rw (eq-eqb n n refl, eq-eqb b b refl) in
-          let p = s .entries n b own-live (a .place .item) .frames in
-          omega arith
-
-      own-frames : (t : ℕ) → t < setsOf g → used g w n t ≤ setFrames g
-      own-frames t h = elim (ℕ-discrete (setOf g b) t) [
-        | yes e ↦ (let f = used-more g v w n b (extra (v .entry n b)) own-others (setOf g b) own-uses in
-            let u : used g w n (setOf g b) ≤ setFrames g = omega (arith, room) in
-            subst (λ t. used g w n t ≤ setFrames g) e u)
-        | no d ↦ (let f = used-elsewhere g v w n b 0 own-others t d in let m = sound-frames n t own-live h in omega arith)
-      ]
+  safe-kept = safe-keeps g v n b (extra (v .entry n b)) phase number good own-live (a .place .item) room

@@ -1,7 +1,6 @@
 -- `create` meets its contract: a plan for each way out. Assumes nothing.
 use Rattle.table.specs.Answers.{meets-refused}
-use Rattle.calls.specs.Plans.{plan-failed, plan-turned, plan-admitted}
-use Rattle.calls.specs.CreateCode.{meets-as}
+use Rattle.calls.specs.Plans.{plan-failed, plan-turned, plan-admitted, meets-as}
 use borrow.Author.Needs.{needs}
 use Rattle.calls.proofs.create.create.Statement.{statement}
 use Rattle.calls.proofs.create.create.Tie as tie

@@ -1,5 +1,6 @@
 -- `create_next` meets its contract: an item, or 17. Assumes nothing.
-use Rattle.calls.specs.CreateCode.{none-left, next-plan, next-owned, meets-nothing, meets-as}
+use Rattle.calls.specs.CreateCode.{none-left, next-plan, next-owned}
+use Rattle.calls.specs.Plans.{meets-nothing, meets-as}
 use borrow.Author.Needs.{needs}
 use Rattle.calls.proofs.create.create_next.Statement.{statement}
 use Rattle.calls.proofs.create.create_next.Tie as tie
