@@ -1,8 +1,8 @@
 -- What Open, Create, Commit and Abandon have in common: the phase, the dirty items, the entries by node, then item.
-use Prim.Native.Nat.{ℕ, _+_, _*_, _/_, _%_, _^_, _<_, _≤_}
-use mathlib.Core.Path.{_≡_, refl, sym, ap, ap₂, _∙_}
+use Prim.Native.Nat.{ℕ, _+_, _*_, _/_, _%_, _<_, _≤_}
+use mathlib.Core.Path.{_≡_, refl, sym, ap, _∙_}
 use mathlib.Core.Bool.{Bool, true, false, cond, not, _&&_, _||_}
-use mathlib.Core.List.{List, [], _∷_, map}
+use mathlib.Core.List.{List, []}
 use native.Mathlib.Omega.{arith}
 use lib.Dec.{eqb, ltb}
 use lib.ListN.{length}
@@ -11,8 +11,8 @@ use Rattle.counting.specs.First.{first, first-turns, first-found}
 use Rattle.table.specs.declared.geometry.Geometry.{Geometry}
 use Rattle.table.specs.declared.answers.Refusal.the-variants.{NoCheckpoint}
 use Rattle.table.specs.Geometry.{wordsOf}
-use Rattle.table.specs.Words.{owner, modified, precommit1, precommit2, phaseOf, numberOf, markWord}
-use Rattle.table.specs.Stores.{Store, Change, Stored, entryStore}
+use Rattle.table.specs.Words.{owner, modified, precommit1, precommit2, phaseOf}
+use Rattle.table.specs.Stores.{Store, Change, Stored}
 use Rattle.table.specs.View.{Entry, View, view, current, live, mark-none}
 use Rattle.table.specs.Pass.{pass}
 use Rattle.table.specs.PassTurns.{Local, nodes-turn, nodes-start}

@@ -1,31 +1,28 @@
 -- The ways of the code of Open, Commit and Abandon. They store one word on every live mark, which is every live node's new mark, since live marks agree;
 -- and no stage changes what a later one looks at.
 use Prim.Native.Nat.{ℕ, _+_, _*_, _/_, _%_, _^_, _≤_, _<_}
-use mathlib.Core.Path.{_≡_, refl, sym, ap, ap₂, _∙_, fun-ext}
-use mathlib.Core.Logic.{_⊎_, inl, inr}
-use mathlib.Core.Bool.{Bool, true, not, cond}
-use mathlib.Core.List.{List, [], _∷_, _++_, map}
+use mathlib.Core.Path.{_≡_, sym, ap, ap₂, _∙_}
+use mathlib.Core.Bool.{true, not, cond}
+use mathlib.Core.List.{List, [], _∷_, map}
 use native.Mathlib.Omega.{arith}
 use native.Mathlib.Nat.{mod-mod}
 use native.Mathlib.Decide.{decLt}
-use lib.Dec.{eqb, ltb}
+use lib.Dec.{eqb}
 use lib.ListN.{length}
-use borrow.Author.Tests.{eq-eqb, ne-eqb}
 use Rattle.counting.specs.First.{first, first-passes, first-least}
 use Rattle.counting.specs.Tests.{no-both}
 use Rattle.table.specs.declared.geometry.Geometry.{Geometry}
 use Rattle.table.specs.Geometry.{wordsOf}
-use Rattle.table.specs.Words.{phaseOf, numberOf, markWord}
-use Rattle.table.specs.Stores.{Store, Change, markStore, entryStore, Stored, runs, runs-ext, stored-then, stored-as}
+use Rattle.table.specs.Words.{numberOf, markWord}
+use Rattle.table.specs.Stores.{Change, markStore, entryStore, Stored, runs-ext, stored-then, stored-as}
 use Rattle.table.specs.View.{Entry, View, view, live}
-use Rattle.table.specs.Pass.{pass, grid-within, grid-once}
+use Rattle.table.specs.Pass.{grid-within, grid-once}
 use Rattle.table.specs.PassLeaves.{pass-marks}
 use Rattle.table.specs.MarksPass.{markTo, marksTo, marks-as, marks-leave, marks-live}
 use Rattle.entries.specs.declared.check.Checked.the-variants.{Passed}
 use Rattle.entries.specs.Check.{faultOf}
 use Rattle.entries.specs.CheckFacts.{accepted-facts}
-use Rattle.entries.specs.SoundFacts.{SoundTable, phaseIn, numberIn, sound-mark}
-use Rattle.calls.specs.declared.checkpoint.Closing.{Closing}
+use Rattle.entries.specs.SoundFacts.{sound-mark}
 use Rattle.calls.specs.declared.checkpoint.Closing.the-variants.{Committed, Abandoned}
 use Rattle.calls.specs.Checkpoint.{commonMark, liveChanges, entriesBefore, entriesTo}
 use Rattle.calls.specs.Closing.{closeChange}

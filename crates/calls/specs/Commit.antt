@@ -1,8 +1,8 @@
 -- Commit: "each live mark, phase 2 and number plus 1, ascending; entries by node, then item, one state store where Precommit or Inv-CK
 -- stands; each live mark, phase 0."
 use Prim.Native.Nat.{ℕ, _+_}
-use mathlib.Core.Path.{_≡_, refl, sym, ap, _∙_}
-use mathlib.Core.Bool.{Bool, true, false, cond, not}
+use mathlib.Core.Path.{_≡_, refl}
+use mathlib.Core.Bool.{true, false, cond}
 use mathlib.Core.List.{List, _++_}
 use lib.Dec.{ltb}
 use Rattle.table.specs.declared.geometry.Geometry.{Geometry}

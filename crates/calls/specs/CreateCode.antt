@@ -8,13 +8,11 @@ use lib.Dec.{eqb}
 use borrow.Author.Tests.{eq-eqb, ne-eqb, lt-ltb, le-ltb, ltb-true}
 use Rattle.counting.specs.First.{first, first-passes}
 use Rattle.table.specs.declared.geometry.Geometry.{Geometry}
-use Rattle.table.specs.declared.answers.Answer.{Answer}
-use Rattle.table.specs.declared.answers.Answer.the-variants.{NothingLeft}
 use Rattle.table.specs.declared.answers.Refusal.the-variants.{NoHome}
 use Rattle.table.specs.Words.{keptOf, shared, precommit1, precommit2}
 use Rattle.table.specs.Stores.{Store, Stored, entryStore, stateTo, stored-then, stored-two}
 use Rattle.table.specs.View.{View, view, current}
-use Rattle.table.specs.Answers.{Plan, refuse, nothingLeft, carry, Meets}
+use Rattle.table.specs.Answers.{Plan, refuse, nothingLeft, carry}
 use Rattle.calls.specs.declared.places.Place.the-variants.{Current}
 use Rattle.calls.specs.declared.home.Arrival.{Arrival}
 use Rattle.calls.specs.Checkpoint.{ownerOf, dirty, dirtyItem}

@@ -33,3 +33,16 @@ pub mod ReadEntry
 pub mod ReadServer
 pub mod ReadVia
 pub mod ReadTheorem
+pub mod KeptMarks
+pub mod LivePass
+pub mod OpenTheorem
+pub mod AbandonEntry
+pub mod AbandonTheorem
+pub mod Forward
+pub mod NoneOwned
+pub mod CommitEntry
+pub mod CommitKept
+pub mod CommitVia
+pub mod CommitTheorem
+pub mod SoundKept
+pub mod WriteSound

@@ -8,7 +8,6 @@ use lib.Dec.{eqb}
 use borrow.Author.Tests.{eq-eqb, ne-eqb}
 use Rattle.counting.specs.First.{first, first-found}
 use Rattle.table.specs.declared.geometry.Geometry.{Geometry}
-use Rattle.table.specs.declared.answers.Answer.{Answer}
 use Rattle.table.specs.declared.answers.Answer.the-variants.{Done}
 use Rattle.table.specs.Words.{currentOf, keptOf, invalid, shared}
 use Rattle.table.specs.Stores.{Stored, StoredIn, stateTo, valueTo, stored-then, stored-two, stored-none}

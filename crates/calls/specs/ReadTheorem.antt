@@ -6,12 +6,11 @@ use mathlib.Core.List.{List}
 use lib.ListN.{length}
 use Rattle.table.specs.declared.geometry.Geometry.{Geometry}
 use Rattle.table.specs.Stores.{Store, after}
-use Rattle.table.specs.View.{View, view}
+use Rattle.table.specs.View.{view}
 use Rattle.table.specs.Via.{via-cut, via-whole}
 use Rattle.table.specs.Answers.{carry}
 use Rattle.entries.specs.SoundFacts.{phaseIn, numberIn}
 use Rattle.entries.specs.CheckFacts.{Accepted, accepted-facts}
-use Rattle.calls.specs.declared.admission.Admission.{Admission}
 use Rattle.calls.specs.Admission.{FrameAdmits, frame-admits}
 use Rattle.calls.specs.Plans.{Carried, acted-carried, acted-value}
 use Rattle.calls.specs.Read.{fetches, readAdmission, readStores, readValue, readOf}

@@ -18,13 +18,13 @@ use Rattle.calls.specs.Written.{Written}
 use Rattle.calls.specs.WriteVia.{write-via, safe-kept}
 
 module _ (t : List ℕ) (n b x : ℕ) {g : Geometry} {value : ℕ} {ss : List Store} (accepted : writeOf t n b x ≡ carry g value ss) where
-  carried : Carried (λ g v. writeAdmission g v n b) (λ g v. writeStores g v n b x) t g ss
+  pub carried : Carried (λ g v. writeAdmission g v n b) (λ g v. writeStores g v n b x) t g ss
   carried = acted-carried (λ g v. writeAdmission g v n b) (λ g v. 0) (λ g v. writeStores g v n b x) t accepted
 
-  facts : Accepted t g (phaseIn g (view g t)) (numberIn g (view g t))
+  pub facts : Accepted t g (phaseIn g (view g t)) (numberIn g (view g t))
   facts = accepted-facts t g (carried .passed)
 
-  admits : FrameAdmits g (view g t) n b (writeNeeds (view g t) n b)
+  pub admits : FrameAdmits g (view g t) n b (writeNeeds (view g t) n b)
   admits = frame-admits g (view g t) n b (writeNeeds (view g t) n b) (carried .admitted)
 
   -- after any number of its stores

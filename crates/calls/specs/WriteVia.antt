@@ -1,18 +1,18 @@
 -- Write on a view: every store keeps every live entry safe, and the last one leaves the table written.
 use Prim.Native.Nat.{ℕ, _+_, _≤_, _<_}
-use mathlib.Core.Path.{_≡_, refl, subst, _∙_}
-use mathlib.Core.Bool.{Bool, true, false, cond, _&&_, _||_}
+use mathlib.Core.Path.{_≡_, refl, _∙_}
+use mathlib.Core.Bool.{Bool, true, false, cond, _||_}
 use mathlib.Core.List.{[]}
 use native.Mathlib.Omega.{arith}
-use native.Mathlib.Decide.{ℕ-discrete, decLt}
+use native.Mathlib.Decide.{decLt}
 use lib.Dec.{eqb}
 use borrow.Author.Tests.{eqb-false, eq-eqb, ne-eqb}
 use Rattle.table.specs.declared.geometry.Geometry.{Geometry}
-use Rattle.table.specs.Words.{stateForm, invalid, modified, precommit1}
+use Rattle.table.specs.Words.{invalid, modified, precommit1}
 use Rattle.table.specs.View.{Entry, View, current}
 use Rattle.table.specs.Via.{Via, via-then, via-weaken}
 use Rattle.table.specs.Pass.{Steps, last, steps-map, Each, Passed, pass-via, entry-via}
-use Rattle.entries.specs.Frames.{setsOf, setOf, setFrames, used, set-there}
+use Rattle.entries.specs.Frames.{setOf, setFrames, used, set-there}
 use Rattle.entries.specs.SoundFacts.{SoundTable}
 use Rattle.calls.specs.Admission.{FrameAdmits}
 use Rattle.calls.specs.Write.{writeNeeds, otherChange, otherChanges, otherStores, ownChanges, writeStores}
@@ -20,7 +20,7 @@ use Rattle.calls.specs.Kept.{Live, Kept, live-test}
 use Rattle.calls.specs.SoundTells.{no-precommit}
 use Rattle.calls.specs.SafeKept.{safeAt, more-here, form-at, safe-begins, safe-with, safe-keeps}
 use Rattle.calls.specs.Written.{away, Written}
-use Rattle.calls.specs.WriteEntry.{Safe, extra, other-steps, own-steps}
+use Rattle.calls.specs.WriteEntry.{extra, other-steps, own-steps}
 
 module _ (g : Geometry) (v : View) (phase number n b x : ℕ) (good : SoundTable g v phase number) (a : FrameAdmits g v n b (writeNeeds v n b)) where
   -- the frame that the write may need, at its own entry only

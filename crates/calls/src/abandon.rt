@@ -1,5 +1,4 @@
 // Abandon: an open checkpoint is given up.
-ghost use mathlib.Core.Path.{_≡_};
 ghost use Rattle.table.specs.Stores.{Stored};
 ghost use Rattle.table.specs.View.{view};
 ghost use Rattle.table.specs.Answers.{Meets};

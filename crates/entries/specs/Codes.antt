@@ -6,7 +6,7 @@ use Prim.Native.Nat.{ℕ, _+_, _<_}
 use lib.Dec.{eqb}
 use borrow.Author.Tests.{eqb-true}
 use Rattle.counting.specs.Tests.{no-both, both, and-both, by-cases}
-use Rattle.table.specs.View.{View, live, current, kept}
+use Rattle.table.specs.View.{View, live, current}
 use Rattle.counting.specs.Counting.{count, count-ext, count-or, count-tight}
 use Rattle.entries.specs.Tally.{has, copy}
 use Rattle.entries.specs.Kinds.{copy-at, copy-live}

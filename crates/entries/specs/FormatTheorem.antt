@@ -2,13 +2,13 @@
 use mathlib.Core.Path.{_≡_, refl, sym, ap, _∙_}
 use mathlib.Core.Logic.{_≢_}
 use mathlib.Core.Bool.{Bool, true, false, not, _&&_}
-use mathlib.Core.List.{List, [], _∷_, _++_, map}
+use mathlib.Core.List.{List, _∷_, _++_}
 use Prim.Native.Nat.{ℕ, zero, suc, _+_, _-_, _*_, _/_, _%_, _<_, _≤_}
 use native.Mathlib.Omega.{arith}
 use native.Mathlib.Nat.{mod-lt, add-zero}
 use lib.Arith.{digits-div, digits-mod, digits-lt}
 use lib.Dec.{eqb, leb}
-use lib.ListN.{length, getD, set, length-append}
+use lib.ListN.{length, getD, set}
 use lib.Seq.{getD-set-same}
 use borrow.Author.Tests.{eq-eqb, leb-true}
 use Rattle.counting.specs.Tests.{and-both, both, by-cases}
@@ -17,21 +17,21 @@ use Rattle.table.specs.declared.geometry.Geometry.{Geometry}
 use Rattle.table.specs.declared.geometry.Made.{Made}
 use Rattle.table.specs.declared.geometry.Made.the-variants.{Allowed, NotAllowed}
 use Rattle.entries.specs.declared.check.Checked.the-variants.{Passed as PassedChecks}
-use Rattle.table.specs.Words.{sharedCK1, sharedCK2, currentOf, keptOf, stateForm, stateWord, markWord, markForm, phaseOf, numberOf, sizeWord, current-state, kept-state}
+use Rattle.table.specs.Words.{sharedCK1, sharedCK2, stateForm, stateWord, markWord, markForm, phaseOf, numberOf, sizeWord, current-state, kept-state}
 use Rattle.table.specs.Forms.{alone-form}
 use Rattle.table.specs.Geometry.{allowed, inRanges, geometryOf, wordsOf, sized, roomy, made-allowed}
-use Rattle.table.specs.Stores.{Store, sizeStore, markStore, entryStore, placeOf, wordOf, after, runs, runs-length, All, none, more, all-then, all-runs, after-length, after-off}
-use Rattle.table.specs.View.{Entry, View, view, live, current, kept, update}
+use Rattle.table.specs.Stores.{Store, sizeStore, placeOf, wordOf, after, runs, All, none, more, all-then, all-runs, after-length, after-off}
+use Rattle.table.specs.View.{Entry, View, view, live, current, kept}
 use Rattle.table.specs.Puts.{put₁-case}
 use Rattle.table.specs.Via.{Via, done, step, via-then, via-weaken, via-loosen, via-runs, via-whole}
-use Rattle.table.specs.Pass.{Steps, last, next, Each, Passed, pass-via, grid-within, grid-once}
-use Rattle.entries.specs.Frames.{setsOf, setFrames, framesAt, frameOf, framesIn, used, frames-state}
+use Rattle.table.specs.Pass.{last, next, pass-via, grid-within, grid-once}
+use Rattle.entries.specs.Frames.{framesAt, frameOf, framesIn, used, frames-state}
 use Rattle.entries.specs.Tally.{has}
 use Rattle.entries.specs.Kinds.{Clean, clean, has-code, copy-code, cleanCode}
 use Rattle.entries.specs.SoundFacts.{SoundTable}
 use Rattle.entries.specs.Check.{faultOf}
 use Rattle.entries.specs.CheckFacts.{facts-accepted}
-use Rattle.table.specs.Answers.{Plan, refuse, carry}
+use Rattle.table.specs.Answers.{refuse, carry}
 use Rattle.entries.specs.Format.{firstPlace, firstEntry, firstMark, firstEntries, formatStores, formatMade, formatOf}
 use Rattle.entries.specs.FirstPlaces.{first-on, second-on, first-only, second-only, place-clean, place-small, holding, held-fits}
 

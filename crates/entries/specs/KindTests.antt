@@ -7,7 +7,7 @@ use lib.Dec.{eqb}
 use borrow.Author.Tests.{eq-eqb}
 use Rattle.table.specs.Words.{shared, owner, modified, sharedCK1, sharedCK2, precommit1, precommit2, invCK1, invCK2}
 use Rattle.counting.specs.Tests.{no-both, both, and-both, or-left, or-right}
-use Rattle.table.specs.View.{View, live, current, kept}
+use Rattle.table.specs.View.{View, live, current}
 use Rattle.counting.specs.Counting.{count, Only, only-counts}
 use Rattle.counting.specs.Values.{equal-values, unseen-values}
 use Rattle.entries.specs.Tally.{Counts, has, hasKept, copy, keep, countsOf}

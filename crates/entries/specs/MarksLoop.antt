@@ -6,7 +6,7 @@ use native.Mathlib.Omega.{arith}
 use Rattle.table.specs.Words.{markForm, phaseOf, numberOf}
 use lib.Dec.{eqb}
 use Rattle.table.specs.View.{View}
-use Rattle.counting.specs.Counting.{every, every-none, every-next}
+use Rattle.counting.specs.Counting.{every-none, every-next}
 use Rattle.counting.specs.Values.{metOf, noValues, values-none, values-next}
 use Rattle.entries.specs.Sound.{marksForm, phasesOf, pointsOf, marksAgree, nodesSound, itemsSound, sound}
 use Rattle.table.specs.declared.geometry.Geometry.{Geometry}

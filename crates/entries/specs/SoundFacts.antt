@@ -6,7 +6,7 @@ use native.Mathlib.Omega.{arith}
 use lib.Dec.{leb, ltb, eqb}
 use borrow.Author.Tests.{eqb-true, eqb-false, not-true, eq-eqb, ltb-true, lt-ltb, leb-true, le-leb}
 use Rattle.counting.specs.Tests.{both, and-both, given, implies}
-use Rattle.counting.specs.Counting.{every, every-at, every-all}
+use Rattle.counting.specs.Counting.{every-at, every-all}
 use Rattle.counting.specs.Values.{values-equal, equal-values, values-seen}
 use Rattle.table.specs.declared.geometry.Geometry.{Geometry}
 use Rattle.table.specs.Words.{stateForm, markForm, markWord, phaseOf, numberOf}

@@ -2,7 +2,7 @@
 -- a copy; a refusal gives an empty stretch, and a second call with the same inputs gives its number, or 0."
 use Prim.Native.Nat.{ℕ, _+_, _-_, _*_, _<_, _≤_}
 use mathlib.Core.Path.{_≡_, refl, sym, ap, _∙_}
-use mathlib.Core.Bool.{true, false, cond}
+use mathlib.Core.Bool.{cond}
 use mathlib.Core.List.{List, []}
 use native.Mathlib.Omega.{arith}
 use native.Mathlib.Nat.{suc-mul, mul-le-mul-right}
@@ -18,7 +18,7 @@ use Rattle.table.specs.declared.answers.Refusal.the-variants.{NoNode}
 use Rattle.table.specs.declared.answers.Answer.the-variants.{Done}
 use Rattle.entries.specs.declared.stretch.Span.{Span}
 use Rattle.entries.specs.declared.stretch.Span.the-variants.{Entries, Refused}
-use Rattle.table.specs.Geometry.{entryWords, entryAt, wordsOf}
+use Rattle.table.specs.Geometry.{entryWords, entryAt}
 use Rattle.entries.specs.Check.{sizesOf, faultOf}
 use Rattle.entries.specs.CheckFacts.{sizes-facts}
 use Rattle.table.specs.Answers.{Plan, refuse, nothingLeft, carry, Told, told-yes}

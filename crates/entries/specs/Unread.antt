@@ -11,7 +11,7 @@ use Rattle.counting.specs.Values.{valuesOf}
 use Rattle.table.specs.declared.geometry.Geometry.{Geometry}
 use Rattle.table.specs.Words.{stateForm, markForm, phaseOf, numberOf}
 use Rattle.table.specs.View.{Entry, View, live, current, kept}
-use Rattle.entries.specs.Frames.{setsOf, setOf, setFrames, framesIn, framesAt, used, framesFit}
+use Rattle.entries.specs.Frames.{setsOf, setFrames, framesAt, used, framesFit}
 use Rattle.entries.specs.Tally.{Counts, countsOf, has, hasKept, copy, keep}
 use Rattle.entries.specs.Items.{itemTest}
 use Rattle.entries.specs.Sound.{marksForm, phasesOf, pointsOf, marksAgree, statesForm, nodeSound, nodesSound, itemSound, itemsSound, sound}

@@ -1,7 +1,5 @@
 // Stretch: the part of the caller's own table that holds a node's entries.
 ghost use mathlib.Core.Path.{_≡_};
-ghost use Prim.Native.Nat.{_≤_};
-ghost use lib.ListN.{length};
 ghost use Rattle.table.specs.Answers.{Told, numbersAt};
 ghost use Rattle.entries.specs.Stretch.{stretchOf, stretchPart, Spanned};
 use crate::check;

@@ -12,7 +12,7 @@ use borrow.Author.Tests.{eq-eqb, ne-eqb}
 use Rattle.counting.specs.Tests.{no-both}
 use Rattle.table.specs.declared.geometry.Geometry.{Geometry}
 use Rattle.table.specs.Geometry.{wordsOf}
-use Rattle.table.specs.Stores.{Store, markStore, Stored, runs, runs-ext, stored-as, loop-turns, stored-none}
+use Rattle.table.specs.Stores.{Store, markStore, Stored, runs, runs-ext, loop-turns}
 use Rattle.table.specs.View.{View, view, live, update}
 use Rattle.table.specs.Puts.{put₁-case}
 use Rattle.table.specs.Via.{Via, done, step, via-runs, via-cut}

@@ -1,11 +1,9 @@
 -- `dirty_item` meets its contract: nothing is found before `item`. Assumes nothing.
 use Prim.Native.Nat.{_≤_, _-_}
-use mathlib.Core.Path.{_≡_, sym, ap, _∙_}
+use mathlib.Core.Path.{_≡_, sym}
 use borrow.Author.Needs.{needs}
 use Rattle.counting.specs.First.{first, first-starts, first-turns, first-found, first-ends}
 use Rattle.table.specs.View.{view}
-use borrow.Author.Tests.{lt-ltb, le-ltb}
-use lib.Dec.{ltb}
 use Rattle.calls.specs.Checkpoint.{dirty, dirtyItem, is-dirty, not-dirty}
 use Rattle.calls.proofs.checkpoint.dirty_item.Statement.{statement}
 use Rattle.calls.proofs.checkpoint.dirty_item.Tie as tie

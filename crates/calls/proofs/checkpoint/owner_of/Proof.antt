@@ -1,6 +1,6 @@
 -- `owner_of` meets its contract: nothing is found before `node`. Assumes nothing.
 use Prim.Native.Nat.{_≤_, _-_}
-use mathlib.Core.Path.{_≡_, sym, ap, _∙_}
+use mathlib.Core.Path.{_≡_, sym, _∙_}
 use borrow.Author.Needs.{needs}
 use Rattle.counting.specs.First.{first, first-starts, first-turns, first-found, first-ends}
 use Rattle.table.specs.View.{view}

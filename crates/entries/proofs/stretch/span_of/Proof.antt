@@ -1,5 +1,4 @@
 -- `span_of` meets its contract: a plan for each way out. Assumes nothing.
-use native.Mathlib.Omega.{arith}
 use mathlib.Core.Path.{refl}
 use Rattle.entries.specs.Stretch.{stretch-failed, stretch-no-node, stretch-carried, stretch-within, span-refused, span-found}
 use borrow.Author.Needs.{needs}
