@@ -46,3 +46,5 @@ pub mod CommitVia
 pub mod CommitTheorem
 pub mod SoundKept
 pub mod WriteSound
+pub mod ReadKind
+pub mod ReadSound

@@ -1,6 +1,6 @@
 -- A call that stores no mark keeps the table sound: what must be shown is the kind of each item.
 use Prim.Native.Nat.{ℕ, _<_}
-use mathlib.Core.Path.{_≡_, refl, sym, ap, _∙_}
+use mathlib.Core.Path.{_≡_, refl, sym, ap, ap₂, _∙_}
 use mathlib.Core.Logic.{_≢_}
 use mathlib.Core.Bool.{Bool, true, false, not, _&&_}
 use mathlib.Core.List.{List, [], _∷_, map}
@@ -15,7 +15,7 @@ use Rattle.table.specs.Stores.{Change, Store, entryStore, placeOf, after, All, 
 use Rattle.table.specs.View.{View, live, current, kept}
 use Rattle.table.specs.Copies.{copyNumber, copyValue, backCopy, back-number, back-value}
 use Rattle.table.specs.Pass.{pass}
-use Rattle.entries.specs.Tally.{hasKept}
+use Rattle.entries.specs.Tally.{hasKept, keep}
 use Rattle.entries.specs.Kinds.{Saved, Kind}
 use Rattle.entries.specs.Back.{Pair, backNumber, backValue, hasBack}
 use Rattle.entries.specs.Sharers.{kind-left}
@@ -103,6 +103,30 @@ module _
         λ z. eqb-false (kept (w .entry k b)) 0 (not-true (eqb (kept (w .entry k b)) 0) (h .1)) (sym (number-kept k l a) ∙ z) in
         value-kept k l a d ∙ p .values k l a d;
   }
+
+-- ---- an item whose kept copies are as they were
+
+module _ (v w : View) (N b : ℕ) (marks : w .mark ≡ v .mark) where
+  pub saved-kept :
+      ((k : ℕ) → k < N → kept (w .entry k b) ≡ kept (v .entry k b)) → ((k : ℕ) → k < N → w .entry k b .keptValue ≡ v .entry k b .keptValue)
+      → Saved v N b → Saved w N b
+  saved-kept h x s = record {
+    one = s .one;
+    two = s .two;
+    value = s .value;
+    first = only-same N (hasKept v b invCK1) (hasKept w b invCK1) (s .one) (has-same invCK1) (s .first);
+    second = only-same N (hasKept v b invCK2) (hasKept w b invCK2) (s .two) (has-same invCK2) (s .second);
+    values = λ k l t. x k l ∙ s .values k l (keep-same k l ∙ t);
+  }
+    where
+      live-same : (k : ℕ) → live v k ≡ live w k
+      live-same k = ap (λ f. not (eqb (f k) 0)) (sym marks)
+
+      has-same : (code k : ℕ) → k < N → hasKept v b code k ≡ hasKept w b code k
+      has-same code k l = ap₂ _&&_ (live-same k) (ap (λ c. eqb c code) (sym (h k l)))
+
+      keep-same : (k : ℕ) → k < N → keep v b k ≡ keep w b k
+      keep-same k l = ap₂ _&&_ (live-same k) (ap (λ c. not (eqb c 0)) (sym (h k l)))
 
 -- ---- the table
 
