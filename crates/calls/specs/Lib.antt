@@ -48,3 +48,10 @@ pub mod SoundKept
 pub mod WriteSound
 pub mod ReadKind
 pub mod ReadSound
+pub mod KeptOn
+pub mod CreateEntry
+pub mod Created
+pub mod CreateVia
+pub mod CreateTells
+pub mod CreateTheorem
+pub mod CreateNone
