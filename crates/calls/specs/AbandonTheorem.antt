@@ -72,10 +72,10 @@ module _ (g : Geometry) (v : View) (phase number : ℕ) (good : SoundTable g v p
       closing-via
 
 module _ (t : List ℕ) {g : Geometry} {value : ℕ} {ss : List Store} (accepted : abandonOf t ≡ carry g value ss) where
-  carried : Carried openAdmission abandonStores t g ss
+  pub carried : Carried openAdmission abandonStores t g ss
   carried = acted-carried openAdmission (λ g v. 0) abandonStores t accepted
 
-  facts : Accepted t g (phaseIn g (view g t)) (numberIn g (view g t))
+  pub facts : Accepted t g (phaseIn g (view g t)) (numberIn g (view g t))
   facts = accepted-facts t g (carried .passed)
 
   -- after any number of its stores

@@ -52,7 +52,7 @@ pub record CommitEnd (g : Geometry) (v w : View) : Type 0 where
 
 -- ---- the live nodes are the same ones
 
-marked : (w : View) (n x : ℕ) → w .mark n ≡ x → (x ≡ 0 → ⊥) → live w n ≡ true
+pub marked : (w : View) (n x : ℕ) → w .mark n ≡ x → (x ≡ 0 → ⊥) → live w n ≡ true
 marked w n x e d = ap not (ne-eqb (w .mark n) 0 (λ z. d (sym e ∙ z)))
 
 pub live-by :

@@ -17,10 +17,10 @@ use Rattle.calls.specs.CommitKept.{CommitCut, CommitEnd}
 use Rattle.calls.specs.CommitVia.{commit-via}
 
 module _ (t : List ℕ) {g : Geometry} {value : ℕ} {ss : List Store} (accepted : commitOf t ≡ carry g value ss) where
-  carried : Carried commitAdmission commitStores t g ss
+  pub carried : Carried commitAdmission commitStores t g ss
   carried = acted-carried commitAdmission (λ g v. 0) commitStores t accepted
 
-  facts : Accepted t g (phaseIn g (view g t)) (numberIn g (view g t))
+  pub facts : Accepted t g (phaseIn g (view g t)) (numberIn g (view g t))
   facts = accepted-facts t g (carried .passed)
 
   -- after any number of its stores

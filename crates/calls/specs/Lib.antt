@@ -55,3 +55,9 @@ pub mod CreateVia
 pub mod CreateTells
 pub mod CreateTheorem
 pub mod CreateNone
+pub mod MarksSound
+pub mod KindMoved
+pub mod OpenSound
+pub mod AbandonSound
+pub mod CommitSound
+pub mod CommitCount

@@ -26,10 +26,10 @@ open-via g v =
     marks-via g v creatingMark (OpenCut g v) (λ w e m. record { entries = e; marks = m }) (record { entries = refl; marks = λ n. inl refl })
 
 module _ (t : List ℕ) {g : Geometry} {value : ℕ} {ss : List Store} (accepted : openOf t ≡ carry g value ss) where
-  carried : Carried startAdmission openStores t g ss
+  pub carried : Carried startAdmission openStores t g ss
   carried = acted-carried startAdmission (λ g v. 0) openStores t accepted
 
-  facts : Accepted t g (phaseIn g (view g t)) (numberIn g (view g t))
+  pub facts : Accepted t g (phaseIn g (view g t)) (numberIn g (view g t))
   facts = accepted-facts t g (carried .passed)
 
   -- after any number of its stores
