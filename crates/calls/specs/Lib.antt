@@ -61,3 +61,10 @@ pub mod OpenSound
 pub mod AbandonSound
 pub mod CommitSound
 pub mod CommitCount
+pub mod OneEntry
+pub mod EvictEntry
+pub mod Moving
+pub mod EvictVia
+pub mod EvictTells
+pub mod EvictMoves
+pub mod EvictTheorem
