@@ -1,18 +1,18 @@
 -- Stores that change one entry only: before each the others are as they were, and the frames of every node stay within bounds.
-use Prim.Native.Nat.{ℕ, zero, suc, _+_, _≤_, _<_}
+use Prim.Native.Nat.{ℕ, _+_, _≤_, _<_}
 use mathlib.Core.Path.{_≡_, refl, ap, _∙_, subst}
 use mathlib.Core.List.{List, map}
 use mathlib.Core.Bool.{true}
 use native.Mathlib.Omega.{arith}
 use native.Mathlib.Decide.{ℕ-discrete}
-use Rattle.counting.specs.Counting.{sum, sum-le}
 use Rattle.table.specs.declared.geometry.Geometry.{Geometry}
 use Rattle.table.specs.Words.{stateForm}
 use Rattle.table.specs.Stores.{Change, entryStore}
 use Rattle.table.specs.View.{Entry, View}
 use Rattle.table.specs.Via.{Via, via-loosen}
 use Rattle.table.specs.Pass.{Steps, last, next, steps-map, Changed, entry-via}
-use Rattle.entries.specs.Frames.{setsOf, setOf, setFrames, framesIn, framesAt, used}
+use Rattle.entries.specs.Frames.{setsOf, setOf, setFrames, framesIn, used}
+use Rattle.calls.specs.KeptOn.{used-less as used-less-by}
 use Rattle.calls.specs.Kept.{Live}
 use Rattle.calls.specs.FramesKept.{uses, used-no-more, used-more, used-elsewhere}
 
@@ -83,21 +83,9 @@ module _ (g : Geometry) (v u w : View) (held : Held g v u) (i j d : ℕ) (own : 
 
 -- ---- an entry that leaves a frame
 
-sum-one-less :
-    (n : ℕ) (f h : ℕ → ℕ) (j : ℕ) → j < n → ((i : ℕ) → i < n → (i ≡ j → ⊥) → f i ≤ h i) → f j + 1 ≤ h j → sum f n + 1 ≤ sum h n
-unfolding sum
-sum-one-less zero f h j b l k = absurd (omega arith)
-sum-one-less (suc n) f h j b l k =
-    elim (ℕ-discrete n j) [
-      | yes e ↦ (let k′ : f n + 1 ≤ h n = rw e k in omega (arith, sum-le n f h (λ i q. l i (omega arith) (λ (r : i ≡ j). omega arith))))
-      | no e ↦ omega (arith, sum-one-less n f h j (omega arith) (λ i q. l i (omega arith)) k, l n (omega arith) e)
-    ]
-
 -- items j and b are of one set
 pub used-less :
     (g : Geometry) (u w : View) (i j b : ℕ) → j < g .items → ((c : ℕ) → (c ≡ j → ⊥) → w .entry i c ≡ u .entry i c)
     → framesIn (w .entry i j .state) + 1 ≤ framesIn (u .entry i j .state) → used g w i (setOf g b) + 1 ≤ used g u i (setOf g b)
-unfolding used framesAt
 used-less g u w i j b h rest l =
-    sum-one-less (g .items) (framesAt g w i (setOf g b)) (framesAt g u i (setOf g b)) j h
-    (λ c _ q. let e = ap (λ e. framesIn (e .state)) (rest c q) in omega arith) l
+    used-less-by g u w i j 1 h (λ c _ q. let e = ap (λ e. framesIn (e .state)) (rest c q) in omega arith) l
