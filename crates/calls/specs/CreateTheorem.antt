@@ -21,10 +21,10 @@ use Rattle.calls.specs.Created.{CreateFinds, CreateLeaves}
 use Rattle.calls.specs.CreateTells.{Creates, plan-creates, create-via, create-finds}
 
 module _ (t : List ℕ) {g : Geometry} {value : ℕ} {ss : List Store} (accepted : createOf t ≡ carry g value ss) where
-  acted : Acted openAdmission createPlan t (carry g value ss)
+  pub acted : Acted openAdmission createPlan t (carry g value ss)
   acted = plan-acted openAdmission createPlan t accepted
 
-  creates : Creates (acted .geometry) (view (acted .geometry) t) g value ss
+  pub creates : Creates (acted .geometry) (view (acted .geometry) t) g value ss
   creates = plan-creates (acted .geometry) (view (acted .geometry) t) (acted .plan)
 
   passed : faultOf t ≡ Passed g
@@ -36,10 +36,10 @@ module _ (t : List ℕ) {g : Geometry} {value : ℕ} {ss : List Store} (accepted
   partnered : noPartner g (view g t) (dirtyItem g (view g t)) ≡ false
   partnered = rw (creates .same) at (creates .partnered)
 
-  stores-are : ss ≡ createStores g (view g t)
+  pub stores-are : ss ≡ createStores g (view g t)
   stores-are = rw (creates .same) at (creates .stores-are)
 
-  facts : Accepted t g (phaseIn g (view g t)) (numberIn g (view g t))
+  pub facts : Accepted t g (phaseIn g (view g t)) (numberIn g (view g t))
   facts = accepted-facts t g passed
 
   -- before the first: the item, its owner, its partner

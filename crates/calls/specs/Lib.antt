@@ -68,3 +68,4 @@ pub mod EvictVia
 pub mod EvictTells
 pub mod EvictMoves
 pub mod EvictTheorem
+pub mod CreateSound
