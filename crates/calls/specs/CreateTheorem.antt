@@ -27,7 +27,7 @@ module _ (t : List ℕ) {g : Geometry} {value : ℕ} {ss : List Store} (accepted
   pub creates : Creates (acted .geometry) (view (acted .geometry) t) g value ss
   creates = plan-creates (acted .geometry) (view (acted .geometry) t) (acted .plan)
 
-  passed : faultOf t ≡ Passed g
+  pub passed : faultOf t ≡ Passed g
   passed = rw (creates .same) at (acted .passed)
 
   some : dirtyItem g (view g t) < g .items

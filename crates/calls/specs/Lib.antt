@@ -69,3 +69,11 @@ pub mod EvictTells
 pub mod EvictMoves
 pub mod EvictTheorem
 pub mod CreateSound
+pub mod Serves
+pub mod WriteServes
+pub mod ReadServes
+pub mod CommitServes
+pub mod OpenServes
+pub mod AbandonServes
+pub mod FormatServes
+pub mod CreateServes
