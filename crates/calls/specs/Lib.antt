@@ -77,3 +77,7 @@ pub mod OpenServes
 pub mod AbandonServes
 pub mod FormatServes
 pub mod CreateServes
+pub mod EvictDone
+pub mod EvictLeaves
+pub mod EvictKind
+pub mod EvictSound
