@@ -4,11 +4,6 @@ use borrow.Author.Needs.{needs}
 use Rattle.calls.proofs.evict.move_copy.Statement.{statement}
 use Rattle.calls.proofs.evict.move_copy.Tie as tie
 
-returns : tie.Need-returns
-returns c =
-    let k = c .before .before .before .before .before .before .before .before .before .before .before .before in
-    move-then _ _ _ _ _ (k .before .state-at .ensures) (k .code-of .ensures) (c .before .before .before .before .before .before .before .before .before .before .value-in .ensures) (c .before .before .before .before .before .before .before .before .arrival-at .ensures) (c .before .before .before .before .before .before .home-stores .ensures) (c .before .before .leave-source .ensures)
-
 pub move-copy-spec : {M : Type 1} → statement M
 move-copy-spec =
     tie.close
@@ -20,4 +15,4 @@ move-copy-spec =
     (λ c κs. search needs)
     (λ c κs. search needs)
     (λ c. search needs)
-    returns)
+    (λ c. search move-then))
