@@ -81,3 +81,4 @@ pub mod EvictDone
 pub mod EvictLeaves
 pub mod EvictKind
 pub mod EvictSound
+pub mod EvictServes
