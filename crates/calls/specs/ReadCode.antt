@@ -13,7 +13,7 @@ use Rattle.table.specs.Words.{currentOf, keptOf, invalid, shared}
 use Rattle.table.specs.Stores.{Stored, StoredIn, stateTo, valueTo, stored-then, stored-two, stored-none}
 use Rattle.table.specs.View.{View, view}
 use Rattle.table.specs.Answers.{Plan, carry, Meets, meets-done}
-use Rattle.calls.specs.Admission.{frameFull}
+use Rattle.homes.specs.Admission.{frameFull}
 use Rattle.calls.specs.Read.{fetches, serves, servesAt, serverOf, serverChanges, fetchFrom, readStores, readValue}
 
 -- a frame is needed if the current place is Invalid

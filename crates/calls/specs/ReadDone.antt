@@ -5,14 +5,11 @@ use mathlib.Core.Logic.{_≢_}
 use mathlib.Core.Bool.{true, cond}
 use lib.Dec.{eqb}
 use Rattle.table.specs.declared.geometry.Geometry.{Geometry}
-use Rattle.table.specs.Words.{stateWord, invalid, shared, owner, modified}
-use Rattle.table.specs.View.{Entry, View, current, kept}
+use Rattle.table.specs.Words.{invalid, shared, owner, modified}
+use Rattle.table.specs.View.{Entry, View, current}
 use Rattle.calls.specs.Read.{serves, serverOf}
-use Rattle.calls.specs.Kept.{Live}
-
--- an entry with this current place and value, its kept place as it was
-abbrev pub placed : Entry → ℕ → ℕ → Entry
-placed e c x = record { state = stateWord c (kept e); value = x; keptValue = e .keptValue }
+use Rattle.homes.specs.Placed.{placed}
+use Rattle.homes.specs.Kept.{Live}
 
 -- "a Modified owner turns Owner"
 abbrev pub servedAfter : Entry → Entry

@@ -16,8 +16,9 @@ use Rattle.table.specs.Copies.{backBy, value-free}
 use Rattle.entries.specs.Frames.{frameOf, framesIn, frames-state}
 use Rattle.calls.specs.Transitions.{changeTo}
 use Rattle.calls.specs.Read.{serves, serverChanges, readerChanges}
-use Rattle.calls.specs.ReadDone.{placed, servedAfter}
-use Rattle.calls.specs.WriteEntry.{Safe}
+use Rattle.homes.specs.Placed.{placed}
+use Rattle.calls.specs.ReadDone.{servedAfter}
+use Rattle.homes.specs.Safe.{Safe}
 
 module _ (e : Entry) (form : stateForm (e .state) ≡ true) where
   start : (d : ℕ) → Safe e d e

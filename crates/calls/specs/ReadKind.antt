@@ -9,29 +9,23 @@ use lib.Dec.{eqb}
 use borrow.Author.Tests.{eq-eqb, ne-eqb}
 use Rattle.counting.specs.Tests.{no-both, by-cases}
 use Rattle.table.specs.declared.geometry.Geometry.{Geometry}
-use Rattle.table.specs.Words.{stateForm, invalid, shared, owner, modified, current-state, kept-state}
-use Rattle.table.specs.Forms.{form-facts}
+use Rattle.table.specs.Words.{stateForm, invalid, shared, owner, modified}
 use Rattle.table.specs.View.{Entry, View, live, current, kept}
 use Rattle.entries.specs.Tally.{copy}
 use Rattle.entries.specs.Kinds.{cleanCode, ownerCode, Clean, Owned, modified-at, owner-at, Dirty, Kind, clean, dirty, created, has-live, has-code, has-at, has-copy, copy-at, copy-live, copy-code}
 use Rattle.entries.specs.Update.{Elsewhere, only-keeps}
 use Rattle.entries.specs.Sharers.{add-shared-clean}
-use Rattle.calls.specs.Kept.{live-test}
-use Rattle.calls.specs.ReadDone.{placed, servedAfter, Serving, Fetched}
+use Rattle.homes.specs.Placed.{placed-current, placed-kept}
+use Rattle.homes.specs.Kept.{live-test}
+use Rattle.calls.specs.ReadDone.{servedAfter, Serving, Fetched}
 use Rattle.calls.specs.ReadServer.{serves-copy}
-use Rattle.calls.specs.SoundKept.{saved-kept}
+use Rattle.homes.specs.SoundKept.{saved-kept}
 
 -- ---- the server's entry
 
 module _ (e : Entry) (form : stateForm (e .state) ≡ true) where
-  pub placed-current : (c x : ℕ) → c < 8 → current (placed e c x) ≡ c
-  placed-current c x h = let f = form-facts (e .state) form in current-state c (kept e) (omega arith) (omega arith)
-
-  pub placed-kept : (c x : ℕ) → c < 8 → kept (placed e c x) ≡ kept e
-  placed-kept c x h = let f = form-facts (e .state) form in kept-state c (kept e) (omega arith) (omega arith)
-
   pub served-kept : kept (servedAfter e) ≡ kept e
-  served-kept = by-cases (eqb (current e) modified) (λ q. rw q (placed-kept owner (e .value) (omega arith))) (λ q. rw q refl)
+  served-kept = by-cases (eqb (current e) modified) (λ q. rw q (placed-kept e form owner (e .value) (omega arith))) (λ q. rw q refl)
 
   pub served-value : servedAfter e .value ≡ e .value
   served-value = by-cases (eqb (current e) modified) (λ q. rw q refl) (λ q. rw q refl)
@@ -43,7 +37,7 @@ module _ (e : Entry) (form : stateForm (e .state) ≡ true) where
   served-same d = rw (ne-eqb (current e) modified d) refl
 
   pub served-owner : current e ≡ modified → current (servedAfter e) ≡ owner
-  served-owner h = rw (eq-eqb (current e) modified h) (placed-current owner (e .value) (omega arith))
+  served-owner h = rw (eq-eqb (current e) modified h) (placed-current e form owner (e .value) (omega arith))
 
 -- ---- the item
 

@@ -15,14 +15,15 @@ use Rattle.table.specs.View.{Entry, View, view, current}
 use Rattle.table.specs.Answers.{carry}
 use Rattle.entries.specs.SoundFacts.{phaseIn}
 use Rattle.entries.specs.CheckFacts.{Accepted}
-use Rattle.calls.specs.Admission.{FrameAdmits, frame-admits}
-use Rattle.calls.specs.Plans.{Carried, acted-carried}
+use Rattle.homes.specs.Admission.{FrameAdmits, frame-admits}
+use Rattle.homes.specs.Plans.{Carried, acted-carried}
 use Rattle.calls.specs.Read.{fetches, serves, serverOf, readAdmission, readStores, readValue, readOf}
-use Rattle.calls.specs.Kept.{Live}
-use Rattle.calls.specs.ReadDone.{placed, servedAfter, Serving, Answered, ReadDone}
+use Rattle.homes.specs.Kept.{Live}
+use Rattle.homes.specs.Placed.{placed}
+use Rattle.calls.specs.ReadDone.{servedAfter, Serving, Answered, ReadDone}
 use Rattle.calls.specs.ReadTheorem.{read-keeps, read-value, read-read}
 use Rattle.calls.specs.ReadSound.{read-facts}
-use Rattle.calls.specs.Serves.{CurrentHave, Serves, same-geometry, serves-number, serves-by, live-kept, back-held}
+use Rattle.homes.specs.Serves.{CurrentHave, Serves, same-geometry, serves-number, serves-by, live-kept, back-held}
 
 served-value : (e : Entry) → servedAfter e .value ≡ e .value
 served-value e = go (eqb (current e) modified)

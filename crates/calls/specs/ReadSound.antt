@@ -16,13 +16,13 @@ use Rattle.entries.specs.Check.{faultOf}
 use Rattle.entries.specs.Kinds.{Kind}
 use Rattle.entries.specs.SoundFacts.{SoundTable, phaseIn, numberIn}
 use Rattle.entries.specs.CheckFacts.{Accepted, accepted-facts, facts-accepted}
-use Rattle.calls.specs.Admission.{FrameAdmits, frame-admits}
-use Rattle.calls.specs.Plans.{Carried, acted-carried}
+use Rattle.homes.specs.Admission.{FrameAdmits, frame-admits}
+use Rattle.homes.specs.Plans.{Carried, acted-carried}
 use Rattle.calls.specs.Read.{fetches, serverOf, served, serverChanges, readerChanges, fetchFrom, fetchStores, readAdmission, readStores, readValue, readOf}
-use Rattle.calls.specs.Kept.{Live, live-test}
+use Rattle.homes.specs.Kept.{Live, live-test}
 use Rattle.calls.specs.ReadDone.{Serving, ReadDone}
 use Rattle.calls.specs.ReadTheorem.{read-keeps, read-value, read-read}
-use Rattle.calls.specs.SoundKept.{Off, entry-off, shape-after, kind-same, sound-kept}
+use Rattle.homes.specs.SoundKept.{Off, entry-off, shape-after, kind-same, sound-kept}
 use Rattle.calls.specs.ReadKind.{kind-read}
 
 read-off : (g : Geometry) (v : View) (n b : ℕ) → All (Off g) (readStores g v n b)

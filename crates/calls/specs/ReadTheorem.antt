@@ -11,10 +11,10 @@ use Rattle.table.specs.Via.{via-cut, via-whole}
 use Rattle.table.specs.Answers.{carry}
 use Rattle.entries.specs.SoundFacts.{phaseIn, numberIn}
 use Rattle.entries.specs.CheckFacts.{Accepted, accepted-facts}
-use Rattle.calls.specs.Admission.{FrameAdmits, frame-admits}
-use Rattle.calls.specs.Plans.{Carried, acted-carried, acted-value}
+use Rattle.homes.specs.Admission.{FrameAdmits, frame-admits}
+use Rattle.homes.specs.Plans.{Carried, acted-carried, acted-value}
 use Rattle.calls.specs.Read.{fetches, readAdmission, readStores, readValue, readOf}
-use Rattle.calls.specs.Kept.{Kept}
+use Rattle.homes.specs.Kept.{Kept}
 use Rattle.calls.specs.ReadDone.{Answered, ReadDone}
 use Rattle.calls.specs.ReadVia.{read-answers, read-via, safe-kept}
 

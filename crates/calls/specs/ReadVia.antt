@@ -14,13 +14,16 @@ use Rattle.table.specs.Via.{Via, done, via-then, via-weaken}
 use Rattle.table.specs.Pass.{Steps, steps-map, Each, entry-via}
 use Rattle.entries.specs.Frames.{setOf, setFrames, used, set-there}
 use Rattle.entries.specs.SoundFacts.{SoundTable}
-use Rattle.calls.specs.Admission.{FrameAdmits}
+use Rattle.homes.specs.Admission.{FrameAdmits}
 use Rattle.calls.specs.Read.{fetches, serverOf, served, serverChanges, readerChanges, fetchFrom, fetchStores, readStores, readValue}
-use Rattle.calls.specs.Kept.{Live, Kept, live-test}
-use Rattle.calls.specs.SafeKept.{moreAt, safeAt, more-here, safe-with, form-at, safe-begins, safe-keeps}
-use Rattle.calls.specs.ReadDone.{placed, servedAfter, Serving, Answered, Fetched, ReadDone}
+use Rattle.homes.specs.Kept.{Live, Kept, live-test}
+use Rattle.homes.specs.SoundTells.{formed-at, copies-agree}
+use Rattle.homes.specs.Safe.{safe-with}
+use Rattle.homes.specs.SafeKept.{moreAt, safeAt, more-here, safe-begins, safe-keeps}
+use Rattle.homes.specs.Placed.{placed}
+use Rattle.calls.specs.ReadDone.{servedAfter, Serving, Answered, Fetched, ReadDone}
 use Rattle.calls.specs.ReadEntry.{server-steps, reader-steps}
-use Rattle.calls.specs.ReadServer.{serves-copy, server-serves, copies-agree}
+use Rattle.calls.specs.ReadServer.{serves-copy, server-serves}
 
 module _ (g : Geometry) (v : View) (phase number n b : ℕ) (good : SoundTable g v phase number) (a : FrameAdmits g v n b (fetches (v .entry n b))) where
   -- the frame that a fetch needs
@@ -64,14 +67,14 @@ module _ (g : Geometry) (v : View) (phase number n b : ℕ) (good : SoundTable g
       Steps (safe (serverOf g v b) b) (λ e. e ≡ servedAfter (served g v b)) (served g v b) (serverChanges (served g v b))
   server-local =
       steps-map (λ e s _ _. safe-with (omega arith) s) (λ e z. z)
-      (server-steps (served g v b) (form-at g v n b frameFor phase number good (serverOf g v b) b (serving .node) (a .place .item)) (serving .place))
+      (server-steps (served g v b) (formed-at g v phase number good (serverOf g v b) b (serving .node) (a .place .item)) (serving .place))
 
   reader-local :
       current (v .entry n b) ≡ invalid → (x : ℕ) → Steps (safe n b) (λ e. e ≡ placed (v .entry n b) shared x) (v .entry n b) (readerChanges (v .entry n b) x)
   reader-local z x =
       let q : moreAt g v n b frameFor n b ≡ 1 = more-here g v n b frameFor ∙ rw (eq-eqb (current (v .entry n b)) invalid z) in
       steps-map (λ e s _ _. safe-with (omega arith) s) (λ e z. z)
-      (reader-steps (v .entry n b) (form-at g v n b frameFor phase number good n b own-live (a .place .item)) z x)
+      (reader-steps (v .entry n b) (formed-at g v phase number good n b own-live (a .place .item)) z x)
 
   begin : Each safe v v
   begin = record { marks = refl; entries = safe-begins g v n b frameFor phase number good }

@@ -12,9 +12,9 @@ use Rattle.table.specs.Stores.{Store, Change, entryStore, stateTo, valueTo}
 use Rattle.table.specs.View.{Entry, View, current}
 use Rattle.table.specs.Pass.{pass}
 use Rattle.table.specs.Answers.{Plan, carry}
-use Rattle.calls.specs.declared.admission.Admission.{Admission}
-use Rattle.calls.specs.Admission.{admissionOf, frameAdmission}
-use Rattle.calls.specs.Plans.{planBy}
+use Rattle.homes.specs.declared.admission.Admission.{Admission}
+use Rattle.homes.specs.Admission.{admissionOf, frameAdmission}
+use Rattle.homes.specs.Plans.{planBy}
 use Rattle.calls.specs.Transitions.{keepCopy, changeBy}
 
 -- ---- the stores

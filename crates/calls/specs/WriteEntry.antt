@@ -15,16 +15,11 @@ use Rattle.table.specs.Stores.{valueTo, keptTo}
 use Rattle.table.specs.View.{Entry, current, kept, changed}
 use Rattle.table.specs.Pass.{Steps, last, next}
 use Rattle.entries.specs.Frames.{frameOf, framesIn, frames-state}
-use Rattle.table.specs.Copies.{backCopy, backBy, kept-free, value-free, back-moved}
+use Rattle.table.specs.Copies.{backBy, kept-free, value-free, back-moved}
+use Rattle.homes.specs.Safe.{Safe}
 use Rattle.calls.specs.Transitions.{changeTo}
 use Rattle.calls.specs.Write.{needsFrame, otherChange, ownKeep, keptAfter, ownChanges}
 use Rattle.calls.specs.Written.{number, away}
-
--- what every single store keeps of an entry e₀ that has become e
-pub record Safe (e₀ : Entry) (extra : ℕ) (e : Entry) : Type 0 where
-  pub back : backCopy e ≡ backCopy e₀
-  pub form : stateForm (e .state) ≡ true
-  pub frames : framesIn (e .state) ≤ framesIn (e₀ .state) + extra
 
 -- `away`, by whether the entry has no Shared-CK
 abbrev awayBy : Bool → Entry → ℕ → ℕ → Entry

@@ -14,10 +14,10 @@ use Rattle.table.specs.Answers.{carry}
 use Rattle.entries.specs.CheckFacts.{Accepted}
 use Rattle.entries.specs.SoundFacts.{phaseIn}
 use Rattle.calls.specs.Write.{writeOf}
-use Rattle.calls.specs.Kept.{Live}
+use Rattle.homes.specs.Kept.{Live}
 use Rattle.calls.specs.WriteTheorem.{carried, write-keeps}
 use Rattle.calls.specs.WriteSound.{WriteShows, write-shows, write-accepted}
-use Rattle.calls.specs.Serves.{CurrentHave, Serves, same-geometry, serves-number, serves-by, live-kept, back-held}
+use Rattle.homes.specs.Serves.{CurrentHave, Serves, same-geometry, serves-number, serves-by, live-kept, back-held}
 
 -- the values after x is written to item b
 abbrev pub written : (ℕ → ℕ) → ℕ → ℕ → ℕ → ℕ

@@ -20,8 +20,8 @@ use Rattle.entries.specs.Kinds.{Dirty, modified-at, dirty, has-at, has-code, ha
 use Rattle.entries.specs.SoundFacts.{SoundTable, phaseIn, numberIn}
 use Rattle.entries.specs.CheckFacts.{Accepted, facts-accepted, sound-pair}
 use Rattle.calls.specs.Write.{otherChanges, otherStores, ownChanges, writeStores, writeOf}
-use Rattle.calls.specs.Kept.{Live, Kept, live-test, test-live}
-use Rattle.calls.specs.SoundKept.{Off, entry-off, pass-off, shape-after, kind-same, pair-saved, sound-kept}
+use Rattle.homes.specs.Kept.{Live, Kept, live-test, test-live}
+use Rattle.homes.specs.SoundKept.{Off, entry-off, pass-off, shape-after, kind-same, pair-saved, sound-kept}
 use Rattle.calls.specs.Written.{Written}
 use Rattle.calls.specs.WriteTheorem.{carried, facts, admits, write-keeps, write-written}
 

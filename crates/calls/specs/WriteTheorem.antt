@@ -10,10 +10,10 @@ use Rattle.table.specs.Via.{via-cut, via-whole}
 use Rattle.table.specs.Answers.{carry}
 use Rattle.entries.specs.SoundFacts.{phaseIn, numberIn}
 use Rattle.entries.specs.CheckFacts.{Accepted, accepted-facts}
-use Rattle.calls.specs.Admission.{FrameAdmits, frame-admits}
-use Rattle.calls.specs.Plans.{Carried, acted-carried}
+use Rattle.homes.specs.Admission.{FrameAdmits, frame-admits}
+use Rattle.homes.specs.Plans.{Carried, acted-carried}
 use Rattle.calls.specs.Write.{writeNeeds, writeAdmission, writeStores, writeOf}
-use Rattle.calls.specs.Kept.{Kept}
+use Rattle.homes.specs.Kept.{Kept}
 use Rattle.calls.specs.Written.{Written}
 use Rattle.calls.specs.WriteVia.{write-via, safe-kept}
 

@@ -14,11 +14,12 @@ use Rattle.table.specs.Via.{Via, via-then, via-weaken}
 use Rattle.table.specs.Pass.{Steps, last, steps-map, Each, Passed, pass-via, entry-via}
 use Rattle.entries.specs.Frames.{setOf, setFrames, used, set-there}
 use Rattle.entries.specs.SoundFacts.{SoundTable}
-use Rattle.calls.specs.Admission.{FrameAdmits}
+use Rattle.homes.specs.Admission.{FrameAdmits}
 use Rattle.calls.specs.Write.{writeNeeds, otherChange, otherChanges, otherStores, ownChanges, writeStores}
-use Rattle.calls.specs.Kept.{Live, Kept, live-test}
-use Rattle.calls.specs.SoundTells.{no-precommit}
-use Rattle.calls.specs.SafeKept.{safeAt, more-here, form-at, safe-begins, safe-with, safe-keeps}
+use Rattle.homes.specs.Kept.{Live, Kept, live-test}
+use Rattle.homes.specs.SoundTells.{no-precommit, formed-at}
+use Rattle.homes.specs.Safe.{safe-with}
+use Rattle.homes.specs.SafeKept.{safeAt, more-here, safe-begins, safe-keeps}
 use Rattle.calls.specs.Written.{away, Written}
 use Rattle.calls.specs.WriteEntry.{extra, other-steps, own-steps}
 
@@ -54,12 +55,12 @@ module _ (g : Geometry) (v : View) (phase number n b x : ℕ) (good : SoundTable
       go false true h = last (begin k b) refl
       go false false h =
           let l : Live g v k = record { there = hk; marked = eqb-false (v .mark k) 0 h } in
-          steps-map (λ e s _ _. safe-with (omega arith) s) (λ e z. z) (other-steps (v .entry k b) (form-at g v n b (extra (v .entry n b)) phase number good k b l (a .place .item)) (plain-at k l))
+          steps-map (λ e s _ _. safe-with (omega arith) s) (λ e z. z) (other-steps (v .entry k b) (formed-at g v phase number good k b l (a .place .item)) (plain-at k l))
 
   own-local : Steps (safe n b) (λ e. e ≡ away (v .entry n b) modified x) (v .entry n b) (ownChanges (v .entry n b) x)
   own-local =
       let q = more-here g v n b (extra (v .entry n b)) in
-      steps-map (λ e s _ _. safe-with (omega arith) s) (λ e z. z) (own-steps (v .entry n b) (form-at g v n b (extra (v .entry n b)) phase number good n b own-live (a .place .item)) x)
+      steps-map (λ e s _ _. safe-with (omega arith) s) (λ e z. z) (own-steps (v .entry n b) (formed-at g v phase number good n b own-live (a .place .item)) x)
 
   pub write-via : Via g (Each safe v) (Written g n b x v) v (writeStores g v n b x)
   unfolding writeStores otherStores

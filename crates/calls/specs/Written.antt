@@ -8,7 +8,7 @@ use Rattle.table.specs.Words.{stateWord, invalid, modified}
 use Rattle.table.specs.Changes.{checkpointOf}
 use Rattle.table.specs.View.{Entry, View, current}
 use Rattle.calls.specs.Write.{keptAfter}
-use Rattle.calls.specs.Kept.{Live}
+use Rattle.homes.specs.Kept.{Live}
 
 -- the number of an entry's Shared-CK, or 0
 abbrev pub number : Entry → ℕ

@@ -4,8 +4,8 @@ ghost use Rattle.table.specs.Stores.{Stored};
 ghost use Rattle.table.specs.View.{view};
 ghost use Rattle.table.specs.Answers.{carry, Meets};
 ghost use Rattle.calls.specs.Read.{serves, servesAt, serverOf, fetchFrom, readStores, readValue, readAdmission, readOf};
-use crate::admission::Admission;
 use entries::check::Checked;
+use homes::admission::Admission;
 use table::answers::Answer;
 use table::answers::Refusal;
 use table::changes::Event;
@@ -17,14 +17,14 @@ use table::words::SHARED;
 fn admit_read(table: &[u64], g: Geometry, node: u64, item: u64) -> Admission
     ensures { λ r. ⌜ r ≡ readAdmission g (view g (now (table .entry))) node item ⌝ }
 {
-    let admission = crate::admission::admit(table, g, node, item);
+    let admission = homes::admission::admit(table, g, node, item);
     match admission {
         Admission::Turned(x) => Admission::Turned(x),
         Admission::Admitted => {
             let n = node as u8;
             let b = item as u16;
             let current = table::words::current_of(table::stores::state_at(table, g, n, b));
-            let full = crate::admission::frame_full(table, g, n, b, current == INVALID);
+            let full = homes::admission::frame_full(table, g, n, b, current == INVALID);
             if full {
                 return Admission::Turned(Refusal::NoFrame);
             }

@@ -7,8 +7,8 @@ ghost use Rattle.table.specs.Stores.{Stored, StoredIn};
 ghost use Rattle.table.specs.View.{view};
 ghost use Rattle.table.specs.Answers.{Meets};
 ghost use Rattle.calls.specs.Write.{needsFrame, writeAdmission, otherChanges, otherStores, keptAfter, ownKeep, ownChanges, writeStores, writeOf};
-use crate::admission::Admission;
 use entries::check::Checked;
+use homes::admission::Admission;
 use table::answers::Answer;
 use table::answers::Refusal;
 use table::changes::Event;
@@ -26,7 +26,7 @@ fn needs_frame(current: u8) -> bool
 fn admit_write(table: &[u64], g: Geometry, node: u64, item: u64) -> Admission
     ensures { λ r. ⌜ r ≡ writeAdmission g (view g (now (table .entry))) node item ⌝ }
 {
-    let admission = crate::admission::admit(table, g, node, item);
+    let admission = homes::admission::admit(table, g, node, item);
     match admission {
         Admission::Turned(x) => Admission::Turned(x),
         Admission::Admitted => {
@@ -34,7 +34,7 @@ fn admit_write(table: &[u64], g: Geometry, node: u64, item: u64) -> Admission
             let b = item as u16;
             let current = table::words::current_of(table::stores::state_at(table, g, n, b));
             let needed = needs_frame(current);
-            let full = crate::admission::frame_full(table, g, n, b, needed);
+            let full = homes::admission::frame_full(table, g, n, b, needed);
             if full {
                 return Admission::Turned(Refusal::NoFrame);
             }

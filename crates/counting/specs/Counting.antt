@@ -102,6 +102,38 @@ sum-one-more (suc n) f h j d l k =
       | no e ↦ omega (arith, sum-one-more n f h j d (λ i q. l i (omega arith)) k, l n (omega arith) e)
     ]
 
+-- less by at least d at one place, and no more at the others
+pub sum-one-less :
+    (n : ℕ) (f h : ℕ → ℕ) (j d : ℕ) → j < n → ((i : ℕ) → i < n → (i ≡ j → ⊥) → f i ≤ h i) → f j + d ≤ h j → sum f n + d ≤ sum h n
+unfolding sum
+sum-one-less zero f h j d k l e = absurd (omega arith)
+sum-one-less (suc n) f h j d k l e =
+    elim (ℕ-discrete n j) [
+      | yes q ↦ (let e′ : f n + d ≤ h n = rw q e in omega (arith, sum-le n f h (λ i p. l i (omega arith) (λ (r : i ≡ j). omega arith))))
+      | no q ↦ omega (arith, sum-one-less n f h j d (omega arith) (λ i p. l i (omega arith)) e, l n (omega arith) q)
+    ]
+
+pub sum-plus : (f h : ℕ → ℕ) (n : ℕ) → sum (λ i. f i + h i) n ≡ sum f n + sum h n
+unfolding sum
+sum-plus f h zero = refl
+sum-plus f h (suc n) = omega (arith, sum-plus f h n)
+
+sum-nothing : (n : ℕ) → sum (λ i. 0) n ≡ 0
+unfolding sum
+sum-nothing zero = refl
+sum-nothing (suc n) = omega (arith, sum-nothing n)
+
+-- of two bounds, either first
+pub sum-swap : (f : ℕ → ℕ → ℕ) (n m : ℕ) → sum (λ i. sum (f i) m) n ≡ sum (λ j. sum (λ i. f i j) n) m
+unfolding sum
+sum-swap f zero m = sym (sum-nothing m)
+sum-swap f (suc n) m = omega (arith, sum-swap f n m, sum-plus (λ j. sum (λ i. f i j) n) (f n) m)
+
+pub sum-count : (p : ℕ → Bool) (n : ℕ) → sum (λ i. one (p i)) n ≡ count p n
+unfolding sum count
+sum-count p zero = refl
+sum-count p (suc n) = omega (arith, sum-count p n)
+
 -- ---- counts
 
 one-le : (b : Bool) → one b ≤ 1

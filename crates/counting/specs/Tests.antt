@@ -15,6 +15,11 @@ both false h = absurd (no-both h refl)
 pub and-both : {a b : Bool} → a ≡ true → b ≡ true → (a && b) ≡ true
 and-both p q = rw (p, q) refl
 
+-- tests that agree where a first one holds
+pub and-same : (a x y : Bool) → (a ≡ true → x ≡ y) → (a && x) ≡ (a && y)
+and-same true x y f = f refl
+and-same false x y f = refl
+
 pub and-no-right : (a : Bool) {b : Bool} → a ≡ true → (a && b) ≡ false → b ≡ false
 and-no-right true e h = h
 and-no-right false e h = absurd (no-both e refl)

@@ -8,7 +8,7 @@ use native.Mathlib.Decide.{ℕ-discrete}
 use lib.Dec.{eqb}
 use borrow.Author.Tests.{eqb-true, eq-eqb, ne-eqb}
 use Rattle.table.specs.Words.{sharedCK1, sharedCK2, invCK1, invCK2, modified}
-use Rattle.counting.specs.Tests.{no-both, both, and-both}
+use Rattle.counting.specs.Tests.{no-both, both, and-both, and-same}
 use Rattle.table.specs.View.{View, live, current, kept}
 use Rattle.counting.specs.Counting.{Only, only-same}
 use Rattle.entries.specs.Tally.{has, hasKept, copy}
@@ -56,10 +56,6 @@ pair-only v N b p n l h k d = elim (ℕ-discrete (backNumber v b n) 1) [
     small false true = omega arith
     small false false = omega arith
 
-same-if : (a x y : Bool) → (a ≡ true → x ≡ y) → (a && x) ≡ (a && y)
-same-if true x y f = f refl
-same-if false x y f = refl
-
 -- ---- clean: the Shared-CK copies
 
 module _ (v : View) (N b : ℕ) (k : Clean v N b) where
@@ -69,9 +65,9 @@ module _ (v : View) (N b : ℕ) (k : Clean v N b) where
     two = k .two;
     value = k .value;
     first = only-same N (has v b sharedCK1) (hasBack v b 1) (k .one)
-        (λ n l. same-if (live v n) _ _ (λ h. one· (eqb (current (v .entry n b)) sharedCK1) (eqb (current (v .entry n b)) sharedCK2) (kept (v .entry n b)) (kept0 n l h) ∙ ap (λ k. eqb k 1) (sym (back-number (v .entry n b))))) (k .first);
+        (λ n l. and-same (live v n) _ _ (λ h. one· (eqb (current (v .entry n b)) sharedCK1) (eqb (current (v .entry n b)) sharedCK2) (kept (v .entry n b)) (kept0 n l h) ∙ ap (λ k. eqb k 1) (sym (back-number (v .entry n b))))) (k .first);
     second = only-same N (has v b sharedCK2) (hasBack v b 2) (k .two)
-        (λ n l. same-if (live v n) _ _ (λ h. two· n (eqb (current (v .entry n b)) sharedCK1) refl (eqb (current (v .entry n b)) sharedCK2) refl (kept (v .entry n b)) (kept0 n l h) ∙ ap (λ k. eqb k 2) (sym (back-number (v .entry n b))))) (k .second);
+        (λ n l. and-same (live v n) _ _ (λ h. two· n (eqb (current (v .entry n b)) sharedCK1) refl (eqb (current (v .entry n b)) sharedCK2) refl (kept (v .entry n b)) (kept0 n l h) ∙ ap (λ k. eqb k 2) (sym (back-number (v .entry n b))))) (k .second);
     values = λ n l h d. back-value (v .entry n b) d ∙ valued n l h (eqb (current (v .entry n b)) sharedCK1) refl (eqb (current (v .entry n b)) sharedCK2) refl (λ z. d (back-number (v .entry n b) ∙ z));
   }
     where
@@ -120,8 +116,8 @@ module _ (v : View) (N b : ℕ) where
     one = s .one;
     two = s .two;
     value = s .value;
-    first = only-same N (hasKept v b invCK1) (hasBack v b 1) (s .one) (λ n l. same-if (live v n) _ _ (λ h. ap (λ k. eqb k 1) (sym (inv n l h)))) (s .first);
-    second = only-same N (hasKept v b invCK2) (hasBack v b 2) (s .two) (λ n l. same-if (live v n) _ _ (λ h. ap (λ k. eqb k 2) (sym (inv n l h)))) (s .second);
+    first = only-same N (hasKept v b invCK1) (hasBack v b 1) (s .one) (λ n l. and-same (live v n) _ _ (λ h. ap (λ k. eqb k 1) (sym (inv n l h)))) (s .first);
+    second = only-same N (hasKept v b invCK2) (hasBack v b 2) (s .two) (λ n l. and-same (live v n) _ _ (λ h. ap (λ k. eqb k 2) (sym (inv n l h)))) (s .second);
     values = λ n l h d. back-value (v .entry n b) d
         ∙ rw (ne-eqb (current (v .entry n b)) sharedCK1 (c n l h .0), ne-eqb (current (v .entry n b)) sharedCK2 (c n l h .1)) (s .values n l (keep-at v b n h (λ z. d (inv n l h ∙ z))));
   }

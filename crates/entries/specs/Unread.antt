@@ -5,7 +5,7 @@ use Prim.Native.Nat.{ℕ, zero, suc, _<_}
 use native.Mathlib.Omega.{arith}
 use lib.Dec.{leb, eqb}
 use Rattle.counting.specs.declared.values.Values.{Values}
-use Rattle.counting.specs.Tests.{both, by-cases}
+use Rattle.counting.specs.Tests.{both, by-cases, and-same}
 use Rattle.counting.specs.Counting.{every-ext, sum-ext, count, count-ext}
 use Rattle.counting.specs.Values.{valuesOf}
 use Rattle.table.specs.declared.geometry.Geometry.{Geometry}
@@ -21,10 +21,6 @@ pub record SameLive (g : Geometry) (v w : View) : Type 0 where
   pub entry : (n b : ℕ) → n < g .nodes → b < g .items → live v n ≡ true → w .entry n b ≡ v .entry n b
 
 -- ---- tests and values that look only where a first test holds
-
-and-same : (a x y : Bool) → (a ≡ true → x ≡ y) → (a && x) ≡ (a && y)
-and-same true x y f = f refl
-and-same false x y f = refl
 
 or-same : (a x y : Bool) → (a ≡ true → x ≡ y) → (not a || x) ≡ (not a || y)
 or-same true x y f = f refl

@@ -40,7 +40,7 @@ fn call_item(table: &mut [u64], step: Step) -> Outcome {
             Outcome::Answered(calls::write::write(table, node, item, value, WHOLE))
         }
         Step::Evict { node, item, place } => {
-            Outcome::Answered(calls::evict::evict(table, node, item, place, WHOLE))
+            Outcome::Answered(homes::evict::evict(table, node, item, place, WHOLE))
         }
         _ => Outcome::Malformed,
     }
@@ -49,10 +49,10 @@ fn call_item(table: &mut [u64], step: Step) -> Outcome {
 // A call on a checkpoint.
 fn call_checkpoint(table: &mut [u64], step: Step) -> Outcome {
     match step {
-        Step::Open => Outcome::Answered(calls::open::open(table, WHOLE)),
-        Step::Create => Outcome::Answered(calls::create::create(table, WHOLE)),
-        Step::Commit => Outcome::Answered(calls::commit::commit(table, WHOLE)),
-        Step::Abandon => Outcome::Answered(calls::abandon::abandon(table, WHOLE)),
+        Step::Open => Outcome::Answered(checkpoints::open::open(table, WHOLE)),
+        Step::Create => Outcome::Answered(checkpoints::create::create(table, WHOLE)),
+        Step::Commit => Outcome::Answered(checkpoints::commit::commit(table, WHOLE)),
+        Step::Abandon => Outcome::Answered(checkpoints::abandon::abandon(table, WHOLE)),
         _ => Outcome::Malformed,
     }
 }

@@ -5,8 +5,8 @@ use mathlib.Core.Bool.{Bool, true, false, _&&_, _||_}
 use lib.Dec.{eqb}
 use borrow.Author.Tests.{eq-eqb, ne-eqb}
 use Rattle.table.specs.Words.{sizeForm, nodesOf, itemsOf, framesOf}
-use Rattle.calls.specs.declared.places.Place.{Place}
-use Rattle.calls.specs.declared.places.Place.the-variants.{Current, Kept}
+use Rattle.homes.specs.declared.places.Place.{Place}
+use Rattle.homes.specs.declared.places.Place.the-variants.{Current, Kept}
 use Rattle.steps.specs.declared.decode.Lost.{Lost}
 use Rattle.steps.specs.declared.decode.Lost.the-variants.{Nobody, Node}
 use Rattle.steps.specs.declared.decode.Step.{Step}

@@ -3,7 +3,7 @@ use Prim.Native.Nat.{ℕ, _+_, _-_, _*_, _^_}
 use mathlib.Core.Path.{_≡_, refl}
 use mathlib.Core.List.{[], _∷_, _++_}
 use lib.ListN.{replicate}
-use Rattle.calls.specs.declared.places.Place.the-variants.{Current, Kept}
+use Rattle.homes.specs.declared.places.Place.the-variants.{Current, Kept}
 use Rattle.steps.specs.declared.decode.Lost.the-variants.{Nobody, Node}
 use Rattle.steps.specs.declared.decode.Step.the-variants.{Format, Read, Write, Evict, Open, Create, Commit, Abandon, Recover, Malformed}
 use Rattle.steps.specs.Steps.{choiceOf, lostOf, formatStep, readStep, writeStep, evictStep, bareStep, recoverStep, stepBy, stepOf}

@@ -1,7 +1,7 @@
 // A record's two words, decoded.
 ghost use mathlib.Core.Path.{_≡_};
 ghost use Rattle.steps.specs.Steps.{nodeOf, itemOf, placeOf, restOf, choiceOf, lostOf, formatStep, readStep, writeStep, evictStep, bareStep, recoverStep, stepOf};
-use calls::places::Place;
+use homes::places::Place;
 
 // The node that a Recover names, or that it names none.
 pub enum Lost {

@@ -9,6 +9,7 @@ use native.Mathlib.Numerals.{add-one}
 use lib.Arith.{digits-div, digits-mod}
 use lib.ListN.{length, getD, set, length-set, length-append}
 use lib.Seq.{set-out, getD-set-other}
+use Rattle.counting.specs.Counting.{sum}
 use Rattle.table.specs.declared.geometry.Geometry.{Geometry}
 use Rattle.table.specs.Words.{stateWord, sizeWord}
 use Rattle.table.specs.Geometry.{markAt, entryAt}
@@ -197,6 +198,11 @@ nested-flat f M (suc N) =
     rw (e, runs-add (λ k. f (k / M) (k % M)) (N * M) M)
     (ap₂ _++_ (nested-flat f M N)
     (runs-ext M (f N) (λ i. f ((N * M + i) / M) ((N * M + i) % M)) (λ i l. rw (digits-div N l, digits-mod N l) refl)))
+
+pub runs-sum : (f : ℕ → List Store) (n : ℕ) → length (runs f n) ≡ sum (λ i. length (f i)) n
+unfolding runs sum
+runs-sum f zero = refl
+runs-sum f (suc n) = omega (arith, length-append (runs f n) (f n), runs-sum f n)
 
 pub runs-length : (f : ℕ → List Store) (c : ℕ) → ((i : ℕ) → length (f i) ≡ c) → (n : ℕ) → length (runs f n) ≡ n * c
 unfolding runs

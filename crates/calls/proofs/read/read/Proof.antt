@@ -2,8 +2,8 @@
 use mathlib.Core.Path.{sym, _∙_}
 use native.Mathlib.Omega.{arith}
 use Rattle.table.specs.Answers.{meets-refused}
-use Rattle.calls.specs.Admission.{frame-admits}
-use Rattle.calls.specs.Plans.{plan-failed, plan-turned, plan-admitted, meets-as}
+use Rattle.homes.specs.Admission.{frame-admits}
+use Rattle.homes.specs.Plans.{plan-failed, plan-turned, plan-admitted, meets-as}
 use borrow.Author.Needs.{needs}
 use Rattle.calls.proofs.read.read.Statement.{statement}
 use Rattle.calls.proofs.read.read.Tie as tie

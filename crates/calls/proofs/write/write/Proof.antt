@@ -3,8 +3,8 @@ use mathlib.Core.Path.{sym, _∙_}
 use native.Mathlib.Omega.{arith}
 use Rattle.table.specs.Answers.{meets-refused, meets-done}
 use Rattle.entries.specs.CheckFacts.{accepted-facts}
-use Rattle.calls.specs.Admission.{frame-admits}
-use Rattle.calls.specs.Plans.{plan-failed, plan-turned, plan-admitted}
+use Rattle.homes.specs.Admission.{frame-admits}
+use Rattle.homes.specs.Plans.{plan-failed, plan-turned, plan-admitted}
 use borrow.Author.Needs.{needs}
 use Rattle.calls.proofs.write.write.Statement.{statement}
 use Rattle.calls.proofs.write.write.Tie as tie

@@ -1,0 +1,29 @@
+-- `create_next` meets its contract: an item, or 17. Assumes nothing.
+use Rattle.checkpoints.specs.CreateCode.{none-left, next-plan, next-owned}
+use Rattle.homes.specs.Plans.{meets-nothing, meets-as}
+use borrow.Author.Needs.{needs}
+use Rattle.checkpoints.proofs.create.create_next.Statement.{statement}
+use Rattle.checkpoints.proofs.create.create_next.Tie as tie
+
+create-item-requires : tie.Need-create-item-requires
+create-item-requires c κs = next-owned _ _ (c .before .before .dirty-item .ensures) (c .before .if1 .taken)
+
+returns : tie.Need-returns
+returns c =
+    let s = c .before .before in
+    let i = s .before .before in
+    meets-as (next-plan _ _ (i .before .dirty-item .ensures) (i .if1 .taken)) (s .create-item .ensures)
+
+returns-2 : tie.Need-returns-2
+returns-2 c = meets-nothing _ _ (none-left _ _ (c .before .dirty-item .ensures) (c .if1 .left))
+
+pub create-next-spec : {M : Type 1} → statement M
+create-next-spec =
+    tie.close
+    (tie.spec
+    (λ c κs. search needs)
+    create-item-requires
+    (λ c. search needs)
+    returns
+    (λ c. search needs)
+    returns-2)

@@ -1,0 +1,153 @@
+-- What Open, Create, Commit and Abandon have in common: the phase, the dirty items, the entries by node, then item.
+use Prim.Native.Nat.{ℕ, _+_, _*_, _/_, _%_, _<_, _≤_}
+use mathlib.Core.Path.{_≡_, refl, sym, ap, _∙_}
+use mathlib.Core.Bool.{Bool, true, false, cond, not, _&&_, _||_}
+use mathlib.Core.List.{List, []}
+use native.Mathlib.Omega.{arith}
+use lib.Dec.{eqb, ltb}
+use lib.ListN.{length}
+use borrow.Author.Tests.{eq-eqb, ne-eqb, lt-ltb, le-ltb}
+use Rattle.counting.specs.First.{first, first-turns, first-found}
+use Rattle.table.specs.declared.geometry.Geometry.{Geometry}
+use Rattle.table.specs.declared.answers.Refusal.the-variants.{NoCheckpoint}
+use Rattle.table.specs.Geometry.{wordsOf}
+use Rattle.table.specs.Words.{owner, modified, precommit1, precommit2, phaseOf}
+use Rattle.table.specs.Stores.{Store, Change, Stored}
+use Rattle.table.specs.View.{Entry, View, view, current, live, mark-none}
+use Rattle.table.specs.Pass.{pass}
+use Rattle.table.specs.PassTurns.{Local, nodes-turn, nodes-start}
+use Rattle.homes.specs.declared.admission.Admission.{Admission}
+use Rattle.homes.specs.declared.admission.Admission.the-variants.{Admitted, Turned}
+
+-- ---- the phase
+
+-- the mark of the lowest live node: "live marks agree in phase and number", so it is every live node's
+unfoldable pub commonMark : Geometry → View → ℕ
+commonMark g v = v .mark (first (live v) (g .nodes))
+
+-- "checkpoint open (phase 1)"
+unfoldable pub isOpen : Geometry → View → Bool
+isOpen g v = eqb (phaseOf (commonMark g v)) 1
+
+-- "8 no checkpoint open"
+unfoldable pub openAdmission : Geometry → View → Admission
+openAdmission g v = cond (isOpen g v) Admitted (Turned NoCheckpoint)
+
+-- ---- dirty items
+
+abbrev pub owns : ℕ → Bool
+owns c = eqb c owner || eqb c modified
+
+-- a live node where item b is Owner or Modified
+unfoldable pub ownsAt : View → ℕ → ℕ → Bool
+ownsAt v b k = live v k && owns (current (v .entry k b))
+
+-- the node that owns item b; N if there is none, so that the item is clean or created
+unfoldable pub ownerOf : Geometry → View → ℕ → ℕ
+ownerOf g v b = first (ownsAt v b) (g .nodes)
+
+-- "dirty .. not yet created": Precommit1 and Precommit2 stand "in the Owner's stead"
+unfoldable pub dirty : Geometry → View → ℕ → Bool
+dirty g v b = ltb (ownerOf g v b) (g .nodes)
+
+-- "the lowest dirty item not yet created"; M if none is left
+unfoldable pub dirtyItem : Geometry → View → ℕ
+dirtyItem g v = first (dirty g v) (g .items)
+
+abbrev pub noneDirty : Geometry → View → Bool
+noneDirty g v = not (ltb (dirtyItem g v) (g .items))
+
+-- ---- passes
+
+abbrev pub isPrecommit : ℕ → Bool
+isPrecommit c = eqb c precommit1 || eqb c precommit2
+
+-- a live node's entry
+unfoldable pub liveChanges : (Entry → List Change) → View → ℕ → ℕ → List Change
+liveChanges change v n b = cond (live v n) (change (v .entry n b)) []
+
+-- "entries by node, then item": place k of the pass is node k / M, item k % M; those of the nodes before n
+unfoldable pub entriesBefore : Geometry → View → (Entry → List Change) → ℕ → List Store
+entriesBefore g v change n =
+    pass (λ k. k / g .items) (λ k. k % g .items) (λ k. liveChanges change v (k / g .items) (k % g .items)) (n * g .items)
+
+abbrev pub entriesTo : Geometry → View → (Entry → List Change) → List Store
+entriesTo g v change = entriesBefore g v change (g .nodes)
+
+-- ---- the ways of the code
+
+pub changes-local : (change : Entry → List Change) → Local (liveChanges change)
+unfolding liveChanges
+changes-local change v w n b m e = rw (m, e) refl
+
+module _ (change : Entry → List Change) (v : View) (n b : ℕ) {mark : ℕ} (h : mark ≡ v .mark n) where
+  pub changes-dead : mark ≡ 0 → liveChanges change v n b ≡ []
+  unfolding liveChanges
+  changes-dead d = rw (← h, eq-eqb mark 0 d) refl
+
+  pub changes-live : (mark ≡ 0 → ⊥) → liveChanges change v n b ≡ change (v .entry n b)
+  unfolding liveChanges
+  changes-live d = rw (← h, ne-eqb mark 0 d) refl
+
+-- the search for the lowest live mark
+module _ (g : Geometry) (t : List ℕ) (k : ℕ) (e : first (live (view g t)) k ≡ k) where
+  pub common-here : k < g .nodes → {mark : ℕ} → mark ≡ view g t .mark k → (mark ≡ 0 → ⊥) → mark ≡ commonMark g (view g t)
+  unfolding commonMark
+  common-here l h d = h ∙ ap (view g t .mark) (sym (first-found (live (view g t)) k (g .nodes) e (ap not (ne-eqb _ 0 (λ z. d (h ∙ z)))) l))
+
+  pub common-none : g .nodes ≤ k → k ≤ g .nodes → 0 ≡ commonMark g (view g t)
+  unfolding commonMark
+  common-none l m =
+      let q : k ≡ g .nodes = omega arith in
+      let all : first (live (view g t)) (g .nodes) ≡ g .nodes = rw q at e in
+      mark-none g t k l ∙ ap (view g t .mark) (q ∙ sym all)
+
+-- a dead node is passed over
+pub common-passes :
+    (g : Geometry) (t : List ℕ) (n : ℕ) {mark : ℕ} → first (live (view g t)) n ≡ n → mark ≡ view g t .mark n → mark ≡ 0
+    → first (live (view g t)) (n + 1) ≡ n + 1
+common-passes g t n e h d = first-turns (live (view g t)) n e (ap not (eq-eqb (view g t .mark n) 0 (sym h ∙ d)))
+
+-- the pass over the entries, node by node
+module _ (g : Geometry) (change : Entry → List Change) {left left₁ : ℕ} {t t₁ : List ℕ} where
+  pub entries-turn :
+      (n : ℕ) → wordsOf g ≤ length t → n < g .nodes → Stored g left (entriesBefore g (view g t) change n) t t₁ left₁ → {left₂ : ℕ} {t₂ : List ℕ}
+      → Stored g left₁ (pass (λ d. n) (λ d. d) (λ d. liveChanges change (view g t₁) n d) (g .items)) t₁ t₂ left₂
+      → Stored g left (entriesBefore g (view g t) change (n + 1)) t t₂ left₂
+  unfolding entriesBefore
+  entries-turn n long l s r = nodes-turn (liveChanges change) (changes-local change) g long n l s r
+
+  pub entries-end :
+      (n : ℕ) → n ≤ g .nodes → g .nodes ≤ n → Stored g left (entriesBefore g (view g t) change n) t t₁ left₁
+      → Stored g left (entriesTo g (view g t) change) t t₁ left₁
+  entries-end n h k s = let e : n ≡ g .nodes = omega arith in rw e at s
+
+pub entries-start : (g : Geometry) (v : View) (change : Entry → List Change) (left : ℕ) (t : List ℕ) → Stored g left (entriesBefore g v change 0) t t left
+unfolding entriesBefore
+entries-start g v change left t = nodes-start g (λ k. liveChanges change v (k / g .items) (k % g .items)) left t
+
+-- an owner
+pub owns-here :
+    (v : View) (b k : ℕ) {mark c : ℕ} → mark ≡ v .mark k → c ≡ current (v .entry k b) → (not (eqb mark 0) && owns c) ≡ ownsAt v b k
+unfolding ownsAt
+owns-here v b k h e = rw (h, e) refl
+
+-- "8 no checkpoint open"
+module _ (g : Geometry) (v : View) {mark phase : ℕ} (h : mark ≡ commonMark g v) (e : phase ≡ phaseOf mark) where
+  pub open-yes : phase ≡ 1 → Admitted ≡ openAdmission g v
+  unfolding openAdmission isOpen
+  open-yes p = rw (← h, ← e, eq-eqb phase 1 p) refl
+
+  pub open-no : (phase ≡ 1 → ⊥) → Turned NoCheckpoint ≡ openAdmission g v
+  unfolding openAdmission isOpen
+  open-no p = rw (← h, ← e, ne-eqb phase 1 p) refl
+
+-- a dirty item, and one that is not
+module _ (g : Geometry) (v : View) (b : ℕ) {o : ℕ} (h : o ≡ ownerOf g v b) where
+  pub is-dirty : o < g .nodes → dirty g v b ≡ true
+  unfolding dirty
+  is-dirty l = ap (λ x. ltb x (g .nodes)) (sym h) ∙ lt-ltb o (g .nodes) l
+
+  pub not-dirty : g .nodes ≤ o → dirty g v b ≡ false
+  unfolding dirty
+  not-dirty l = ap (λ x. ltb x (g .nodes)) (sym h) ∙ le-ltb o (g .nodes) l

@@ -1,0 +1,51 @@
+-- How an open checkpoint ends in an entry. Commit: "one state store where Precommit or Inv-CK stands". Abandon: "Precommit state words likewise".
+use Prim.Native.Nat.{ℕ}
+use mathlib.Core.Path.{_≡_, refl}
+use mathlib.Core.Bool.{Bool, true, false, cond, not, _||_}
+use mathlib.Core.List.{List, [], _∷_}
+use lib.Dec.{eqb}
+use Rattle.table.specs.declared.changes.Event.the-variants.{Commit, Abandon}
+use Rattle.table.specs.Words.{invalid}
+use Rattle.table.specs.Changes.{changeOf}
+use Rattle.table.specs.Stores.{Change, stateTo}
+use Rattle.table.specs.View.{Entry, current, kept}
+use Rattle.checkpoints.specs.declared.checkpoint.Closing.{Closing}
+use Rattle.checkpoints.specs.declared.checkpoint.Closing.the-variants.{Committed, Abandoned}
+use Rattle.checkpoints.specs.Checkpoint.{isPrecommit}
+
+-- "where Precommit or Inv-CK stands"
+abbrev pub commits : Entry → Bool
+commits e = isPrecommit (current e) || not (eqb (kept e) invalid)
+
+-- "Commit and roll forward empty the kept place."
+unfoldable pub commitChange : Entry → List Change
+commitChange e = cond (commits e) (stateTo (changeOf (current e) Commit) invalid ∷ []) []
+
+-- the kept place stays
+unfoldable pub abandonChange : Entry → List Change
+abandonChange e = cond (isPrecommit (current e)) (stateTo (changeOf (current e) Abandon) (kept e) ∷ []) []
+
+unfoldable pub closeChange : Closing → Entry → List Change
+closeChange Committed e = commitChange e
+closeChange Abandoned e = abandonChange e
+
+-- ---- the ways of the code
+
+module _ (e : Entry) {way : Closing} {c k : ℕ} (p : c ≡ current e) (q : k ≡ kept e) where
+  module _ (w : way ≡ Committed) where
+    pub commit-changes : (isPrecommit c || not (eqb k invalid)) ≡ true → {next : ℕ} → next ≡ changeOf c Commit → closeChange way e ≡ stateTo next invalid ∷ []
+    unfolding closeChange commitChange
+    commit-changes h n = rw (w, ← p, ← q, h, n) refl
+
+    pub commit-stays : (isPrecommit c || not (eqb k invalid)) ≡ false → closeChange way e ≡ []
+    unfolding closeChange commitChange
+    commit-stays h = rw (w, ← p, ← q, h) refl
+
+  module _ (w : way ≡ Abandoned) where
+    pub abandon-changes : isPrecommit c ≡ true → {next : ℕ} → next ≡ changeOf c Abandon → closeChange way e ≡ stateTo next k ∷ []
+    unfolding closeChange abandonChange
+    abandon-changes h n = rw (w, ← p, ← q, h, n) refl
+
+    pub abandon-stays : isPrecommit c ≡ false → closeChange way e ≡ []
+    unfolding closeChange abandonChange
+    abandon-stays h = rw (w, ← p, h) refl

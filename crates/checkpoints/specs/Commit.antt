@@ -1,0 +1,65 @@
+-- Commit: "each live mark, phase 2 and number plus 1, ascending; entries by node, then item, one state store where Precommit or Inv-CK
+-- stands; each live mark, phase 0."
+use Prim.Native.Nat.{ℕ, _+_}
+use mathlib.Core.Path.{_≡_, refl}
+use mathlib.Core.Bool.{true, false, cond}
+use mathlib.Core.List.{List, _++_}
+use lib.Dec.{ltb}
+use Rattle.table.specs.declared.geometry.Geometry.{Geometry}
+use Rattle.table.specs.declared.answers.Refusal.{Refusal}
+use Rattle.table.specs.declared.answers.Refusal.the-variants.{NotCreated}
+use Rattle.table.specs.Words.{numberOf, markWord}
+use Rattle.table.specs.Stores.{Store}
+use Rattle.table.specs.View.{View}
+use Rattle.table.specs.MarksPass.{marksTo}
+use Rattle.table.specs.Answers.{Plan, carry}
+use Rattle.homes.specs.declared.admission.Admission.{Admission}
+use Rattle.homes.specs.declared.admission.Admission.the-variants.{Admitted, Turned}
+use Rattle.checkpoints.specs.declared.checkpoint.Closing.the-variants.{Committed}
+use Rattle.homes.specs.Plans.{planBy}
+use Rattle.checkpoints.specs.Checkpoint.{openAdmission, dirtyItem, noneDirty, entriesTo}
+use Rattle.checkpoints.specs.Closing.{closeChange}
+
+-- ---- the stores
+
+-- "phase 2 and number plus 1"
+abbrev pub committingMark : ℕ → ℕ
+committingMark w = markWord 2 (numberOf w + 1)
+
+-- "each live mark, phase 0", from the mark at entry: its number is that plus 1
+abbrev pub committedMark : ℕ → ℕ
+committedMark w = markWord 0 (numberOf w + 1)
+
+unfoldable pub commitStores : Geometry → View → List Store
+commitStores g v = (marksTo g v committingMark ++ entriesTo g v (closeChange Committed)) ++ marksTo g v committedMark
+
+-- ---- the refusals
+
+-- "8; 12 a dirty item not created"
+unfoldable pub createdAdmission : Geometry → View → Admission → Admission
+createdAdmission g v (Turned x) = Turned x
+createdAdmission g v Admitted = cond (noneDirty g v) Admitted (Turned NotCreated)
+
+abbrev pub commitAdmission : Geometry → View → Admission
+commitAdmission g v = createdAdmission g v (openAdmission g v)
+
+-- ---- the plan
+
+abbrev pub commitOf : List ℕ → Plan
+commitOf t = planBy commitAdmission (λ g v. carry g 0 (commitStores g v)) t
+
+-- ---- the ways of the code
+
+module _ (g : Geometry) (v : View) {a : Admission} (h : a ≡ openAdmission g v) where
+  pub commit-turned : {x : Refusal} → a ≡ Turned x → Turned x ≡ commitAdmission g v
+  unfolding createdAdmission
+  commit-turned e = rw (← h, e) refl
+
+  module _ (e : a ≡ Admitted) {item : ℕ} (k : item ≡ dirtyItem g v) where
+    pub commit-dirty : ltb item (g .items) ≡ true → Turned NotCreated ≡ commitAdmission g v
+    unfolding createdAdmission
+    commit-dirty l = rw (← h, e, ← k, l) refl
+
+    pub commit-admitted : ltb item (g .items) ≡ false → Admitted ≡ commitAdmission g v
+    unfolding createdAdmission
+    commit-admitted l = rw (← h, e, ← k, l) refl

@@ -1,0 +1,56 @@
+-- Open: "phase 1 on each live mark, ascending."
+use Prim.Native.Nat.{ℕ, _-_, _^_}
+use mathlib.Core.Path.{_≡_, refl}
+use mathlib.Core.Bool.{cond}
+use mathlib.Core.List.{List}
+use lib.Dec.{eqb}
+use borrow.Author.Tests.{eq-eqb, ne-eqb}
+use Rattle.table.specs.declared.geometry.Geometry.{Geometry}
+use Rattle.table.specs.declared.answers.Refusal.the-variants.{CheckpointOpen, LastNumber}
+use Rattle.table.specs.Words.{phaseOf, numberOf, markWord}
+use Rattle.table.specs.Stores.{Store}
+use Rattle.table.specs.View.{View}
+use Rattle.table.specs.MarksPass.{marksTo}
+use Rattle.table.specs.Answers.{Plan, carry}
+use Rattle.homes.specs.declared.admission.Admission.{Admission}
+use Rattle.homes.specs.declared.admission.Admission.the-variants.{Admitted, Turned}
+use Rattle.homes.specs.Plans.{planBy}
+use Rattle.checkpoints.specs.Checkpoint.{commonMark, isOpen}
+
+-- ---- the stores
+
+-- "phase 1", the number as it was
+abbrev pub creatingMark : ℕ → ℕ
+creatingMark w = markWord 1 (numberOf w)
+
+abbrev pub openStores : Geometry → View → List Store
+openStores g v = marksTo g v creatingMark
+
+-- ---- the refusals
+
+-- "7; 13 number is 2^32 − 1"
+unfoldable pub startAdmission : Geometry → View → Admission
+startAdmission g v =
+    cond (isOpen g v) (Turned CheckpointOpen)
+    (cond (eqb (numberOf (commonMark g v)) (2 ^ 32 - 1)) (Turned LastNumber)
+    Admitted)
+
+-- ---- the plan
+
+abbrev pub openOf : List ℕ → Plan
+openOf t = planBy startAdmission (λ g v. carry g 0 (openStores g v)) t
+
+-- ---- the ways of the code
+
+module _ (g : Geometry) (v : View) {mark phase number : ℕ} (h : mark ≡ commonMark g v) (e : phase ≡ phaseOf mark) (f : number ≡ numberOf mark) where
+  pub start-open : phase ≡ 1 → Turned CheckpointOpen ≡ startAdmission g v
+  unfolding startAdmission isOpen
+  start-open p = rw (← h, ← e, eq-eqb phase 1 p) refl
+
+  pub start-last : (phase ≡ 1 → ⊥) → number ≡ 2 ^ 32 - 1 → Turned LastNumber ≡ startAdmission g v
+  unfolding startAdmission isOpen
+  start-last p q = rw (← h, ← e, ← f, ne-eqb phase 1 p, eq-eqb number (2 ^ 32 - 1) q) refl
+
+  pub start-yes : (phase ≡ 1 → ⊥) → (number ≡ 2 ^ 32 - 1 → ⊥) → Admitted ≡ startAdmission g v
+  unfolding startAdmission isOpen
+  start-yes p q = rw (← h, ← e, ← f, ne-eqb phase 1 p, ne-eqb number (2 ^ 32 - 1) q) refl

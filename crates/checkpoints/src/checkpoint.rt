@@ -1,0 +1,186 @@
+// What Open, Create, Commit and Abandon have in common.
+ghost use mathlib.Core.Path.{_≡_};
+ghost use Prim.Native.Nat.{_<_, _≤_};
+ghost use lib.ListN.{length};
+ghost use Rattle.table.specs.Geometry.{wordsOf};
+ghost use Rattle.table.specs.Stores.{Stored, StoredIn};
+ghost use Rattle.table.specs.View.{view};
+ghost use Rattle.table.specs.MarksPass.{markTo};
+ghost use Rattle.table.specs.Pass.{pass};
+ghost use Rattle.checkpoints.specs.Checkpoint.{commonMark, openAdmission, owns, ownsAt, ownerOf, dirtyItem, liveChanges, entriesTo};
+ghost use Rattle.checkpoints.specs.Closing.{closeChange};
+ghost use Rattle.checkpoints.specs.ClosingCode.{MarksStored};
+use homes::admission::Admission;
+use table::answers::Refusal;
+use table::changes::Event;
+use table::geometry::Geometry;
+use table::stores;
+use table::words;
+
+// The two ways in which an open checkpoint ends.
+pub enum Closing {
+    Committed,
+    Abandoned,
+}
+
+// The mark of the lowest live node, or 0 if there is none.
+pub fn common_mark(table: &[u64], g: Geometry) -> u64
+    ensures { λ r. ⌜ r ≡ commonMark g (view g (now (table .entry))) ⌝ }
+{
+    let nodes = g.nodes;
+    let mut node: u8 = 0;
+    while node < nodes {
+        let mark = stores::mark_at(table, g, node);
+        if mark != 0 {
+            return mark;
+        }
+        node += 1;
+    }
+    0
+}
+
+// 8 no checkpoint open.
+pub fn admit_open(table: &[u64], g: Geometry) -> Admission
+    ensures { λ r. ⌜ r ≡ openAdmission g (view g (now (table .entry))) ⌝ }
+{
+    let mark = common_mark(table, g);
+    let phase = words::phase_of(mark);
+    if phase == 1 {
+        return Admission::Admitted;
+    }
+    Admission::Turned(Refusal::NoCheckpoint)
+}
+
+// Whether a live node has an item as Owner or Modified.
+fn owns_at(table: &[u64], g: Geometry, item: u16, node: u8) -> bool
+    ensures { λ r. ⌜ r ≡ ownsAt (view g (now (table .entry))) item node ⌝ }
+{
+    let mark = stores::mark_at(table, g, node);
+    let current = words::current_of(stores::state_at(table, g, node, item));
+    (mark != 0) & ((current == words::OWNER) | (current == words::MODIFIED))
+}
+
+// The node that owns an item, or the number of nodes if none does.
+pub fn owner_of(table: &[u64], g: Geometry, item: u16) -> u8
+    ensures { λ r. ⌜ r ≡ ownerOf g (view g (now (table .entry))) item ⌝ }
+{
+    let nodes = g.nodes;
+    let mut node: u8 = 0;
+    while node < nodes {
+        let owns = owns_at(table, g, item, node);
+        if owns {
+            return node;
+        }
+        node += 1;
+    }
+    nodes
+}
+
+// The lowest dirty item that is not created, or the number of items if none is left.
+pub fn dirty_item(table: &[u64], g: Geometry) -> u16
+    ensures { λ r. ⌜ r ≡ dirtyItem g (view g (now (table .entry))) ⌝ }
+{
+    let nodes = g.nodes;
+    let items = g.items;
+    let mut item: u16 = 0;
+    while item < items {
+        let owner = owner_of(table, g, item);
+        if owner < nodes {
+            return item;
+        }
+        item += 1;
+    }
+    items
+}
+
+// The turn of one mark: a live node's becomes the word.
+fn mark_to(table: &mut [u64], left: u64, g: Geometry, node: u8, word: u64) -> u64
+    ensures { λ r. ⌜ Stored g left (markTo (view g (now (table .entry))) (λ w. word) node) (now (table .entry)) (now (table .exit)) r ⌝ }
+{
+    let mark = stores::mark_at(table, g, node);
+    if mark == 0 {
+        return left;
+    }
+    stores::store_mark(table, left, g, node, word)
+}
+
+// Each live mark, ascending, becomes the word, in a table that has all its words.
+pub fn marks_to(table: &mut [u64], left: u64, g: Geometry, word: u64) -> u64
+    ensures { λ r. ⌜ MarksStored g left word (now (table .entry)) (now (table .exit)) r ⌝ }
+{
+    let nodes = g.nodes;
+    let mut left = left;
+    let mut node: u8 = 0;
+    while node < nodes {
+        left = mark_to(table, left, g, node, word);
+        node += 1;
+    }
+    left
+}
+
+// An entry as the checkpoint ends: one state store where it changes.
+fn close_change(table: &mut [u64], left: u64, g: Geometry, node: u8, item: u16, way: Closing) -> u64
+    ensures { λ r. ⌜ StoredIn g left node item (closeChange way (view g (now (table .entry)) .entry node item)) (now (table .entry)) (now (table .exit)) r ⌝ }
+{
+    let state = stores::state_at(table, g, node, item);
+    let current = words::current_of(state);
+    let kept = words::kept_of(state);
+    let precommit = (current == words::PRECOMMIT1) | (current == words::PRECOMMIT2);
+    match way {
+        Closing::Committed => {
+            if precommit | !(kept == words::INVALID) {
+                let next = table::changes::change(current, Event::Commit);
+                return stores::store_state(table, left, g, node, item, next, words::INVALID);
+            }
+            left
+        }
+        Closing::Abandoned => {
+            if precommit {
+                let next = table::changes::change(current, Event::Abandon);
+                return stores::store_state(table, left, g, node, item, next, kept);
+            }
+            left
+        }
+    }
+}
+
+// The turn of one entry: a dead node's is passed over.
+fn close_entry(table: &mut [u64], left: u64, g: Geometry, node: u8, item: u16, way: Closing) -> u64
+    ensures { λ r. ⌜ StoredIn g left node item (liveChanges (closeChange way) (view g (now (table .entry))) node item) (now (table .entry)) (now (table .exit)) r ⌝ }
+{
+    let mark = stores::mark_at(table, g, node);
+    if mark == 0 {
+        return left;
+    }
+    close_change(table, left, g, node, item, way)
+}
+
+// A node's entries, items ascending.
+fn close_node(table: &mut [u64], left: u64, g: Geometry, node: u8, way: Closing) -> u64
+    requires { ⌜ (node < g .nodes) × (wordsOf g ≤ length (now table)) ⌝ }
+    ensures { λ r. ⌜ Stored g left (pass (λ d. node) (λ d. d) (λ d. liveChanges (closeChange way) (view g (now (table .entry))) node d) (g .items)) (now (table .entry)) (now (table .exit)) r ⌝ }
+{
+    let items = g.items;
+    let mut left = left;
+    let mut item: u16 = 0;
+    while item < items {
+        left = close_entry(table, left, g, node, item, way);
+        item += 1;
+    }
+    left
+}
+
+// All entries, by node, then item.
+pub(crate) fn close_entries(table: &mut [u64], left: u64, g: Geometry, way: Closing) -> u64
+    requires { ⌜ wordsOf g ≤ length (now table) ⌝ }
+    ensures { λ r. ⌜ Stored g left (entriesTo g (view g (now (table .entry))) (closeChange way)) (now (table .entry)) (now (table .exit)) r ⌝ }
+{
+    let nodes = g.nodes;
+    let mut left = left;
+    let mut node: u8 = 0;
+    while node < nodes {
+        left = close_node(table, left, g, node, way);
+        node += 1;
+    }
+    left
+}

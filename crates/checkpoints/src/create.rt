@@ -1,0 +1,128 @@
+// Create: the lowest dirty item gets its two copies of the new point.
+ghost use mathlib.Core.Path.{_≡_};
+ghost use Prim.Native.Nat.{_<_};
+ghost use Rattle.table.specs.Stores.{Stored};
+ghost use Rattle.table.specs.View.{view};
+ghost use Rattle.table.specs.Answers.{Meets};
+ghost use Rattle.checkpoints.specs.Checkpoint.{ownerOf};
+ghost use Rattle.checkpoints.specs.Create.{sharesAt, sharerOf, createPlan, createOf};
+ghost use Rattle.checkpoints.specs.CreateCode.{itemPlan, sharerStores, takenStores};
+use entries::check::Checked;
+use homes::admission::Admission;
+use homes::places::Place;
+use table::answers::Answer;
+use table::answers::Refusal;
+use table::geometry::Geometry;
+use table::stores;
+use table::words;
+
+// Whether a live node has a Shared copy of an item.
+fn shares_at(table: &[u64], g: Geometry, item: u16, node: u8) -> bool
+    ensures { λ r. ⌜ r ≡ sharesAt (view g (now (table .entry))) item node ⌝ }
+{
+    let mark = stores::mark_at(table, g, node);
+    let current = words::current_of(stores::state_at(table, g, node, item));
+    (mark != 0) & (current == words::SHARED)
+}
+
+// The lowest-numbered node with a Shared copy of an item, or the number of nodes if none has one.
+fn sharer_of(table: &[u64], g: Geometry, item: u16) -> u8
+    ensures { λ r. ⌜ r ≡ sharerOf g (view g (now (table .entry))) item ⌝ }
+{
+    let nodes = g.nodes;
+    let mut node: u8 = 0;
+    while node < nodes {
+        let shares = shares_at(table, g, item, node);
+        if shares {
+            return node;
+        }
+        node += 1;
+    }
+    nodes
+}
+
+// The owner turns Precommit1, the sharer Precommit2. Both kept places are read before the first store.
+fn turn_sharer(table: &mut [u64], left: u64, g: Geometry, item: u16, owner: u8, sharer: u8) -> u64
+    ensures { λ r. ⌜ Stored g left (sharerStores (view g (now (table .entry))) item owner sharer) (now (table .entry)) (now (table .exit)) r ⌝ }
+{
+    let state = stores::state_at(table, g, owner, item);
+    let kept = words::kept_of(state);
+    let other = stores::state_at(table, g, sharer, item);
+    let beside = words::kept_of(other);
+    let left = stores::store_state(table, left, g, owner, item, words::PRECOMMIT1, kept);
+    stores::store_state(table, left, g, sharer, item, words::PRECOMMIT2, beside)
+}
+
+// The owner turns Precommit1, a home takes the Precommit2. All is chosen before the first store.
+fn bring_home(table: &mut [u64], left: u64, g: Geometry, item: u16, owner: u8, home: u8) -> u64
+    ensures { λ r. ⌜ Stored g left (takenStores g (view g (now (table .entry))) item owner home) (now (table .entry)) (now (table .exit)) r ⌝ }
+{
+    let state = stores::state_at(table, g, owner, item);
+    let kept = words::kept_of(state);
+    let value = stores::value_at(table, g, owner, item);
+    let place = Place::Current;
+    let a = homes::home::arrival_at(table, g, place, home, item);
+    let left = stores::store_state(table, left, g, owner, item, words::PRECOMMIT1, kept);
+    homes::home::home_stores(
+        table,
+        left,
+        g,
+        place,
+        home,
+        item,
+        words::PRECOMMIT2,
+        value,
+        a,
+    )
+}
+
+// An item that has an owner is created: with a sharer, else at a home.
+fn create_item(table: &mut [u64], limit: u64, g: Geometry, item: u16) -> Answer
+    requires { ⌜ ownerOf g (view g (now table)) item < g .nodes ⌝ }
+    ensures { λ r. ⌜ Meets (itemPlan g (view g (now (table .entry))) item) limit (now (table .entry)) (now (table .exit)) r ⌝ }
+{
+    let owner = crate::checkpoint::owner_of(table, g, item);
+    let sharer = sharer_of(table, g, item);
+    let nodes = g.nodes;
+    if sharer < nodes {
+        let left = turn_sharer(table, limit, g, item, owner, sharer);
+        let stores = limit - left;
+        return Answer::Done { value: 0, stores };
+    }
+    let home = homes::home::home_of(table, g, Place::Current, owner, item);
+    if home == owner {
+        return Answer::Refused(Refusal::NoHome);
+    }
+    let left = bring_home(table, limit, g, item, owner, home);
+    let stores = limit - left;
+    Answer::Done { value: 0, stores }
+}
+
+// The lowest dirty item is created; 17 if none is left.
+fn create_next(table: &mut [u64], limit: u64, g: Geometry) -> Answer
+    ensures { λ r. ⌜ Meets (createPlan g (view g (now (table .entry)))) limit (now (table .entry)) (now (table .exit)) r ⌝ }
+{
+    let item = crate::checkpoint::dirty_item(table, g);
+    let items = g.items;
+    if item < items {
+        return create_item(table, limit, g, item);
+    }
+    Answer::NothingLeft
+}
+
+// One dirty item gets its two copies of the new point, in at most `limit` stores.
+pub fn create(table: &mut [u64], limit: u64) -> Answer
+    ensures { λ r. ⌜ Meets (createOf (now (table .entry))) limit (now (table .entry)) (now (table .exit)) r ⌝ }
+{
+    let checked = entries::check::check_table(table);
+    match checked {
+        Checked::Failed(x) => Answer::Refused(x),
+        Checked::Passed(g) => {
+            let admission = crate::checkpoint::admit_open(table, g);
+            match admission {
+                Admission::Turned(x) => Answer::Refused(x),
+                Admission::Admitted => create_next(table, limit, g),
+            }
+        }
+    }
+}

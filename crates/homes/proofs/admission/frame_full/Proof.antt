@@ -1,0 +1,14 @@
+-- `frame_full` meets its contract: needed, and no frame of the set free. Assumes nothing.
+use Rattle.homes.specs.Admission.{frame-asked}
+use borrow.Author.Needs.{needs}
+use Rattle.homes.proofs.admission.frame_full.Statement.{statement}
+use Rattle.homes.proofs.admission.frame_full.Tie as tie
+
+pub frame-full-spec : {M : Type 1} → statement M
+frame-full-spec =
+    tie.close
+    (tie.spec
+    (λ c κs. search needs)
+    (λ c κs. search needs)
+    (λ c κs. search needs)
+    (λ c. let u = c .before in frame-asked _ _ _ _ _ (u .before .set-of .ensures) (u .used-in .ensures) (c .set-frames .ensures)))

@@ -1,0 +1,24 @@
+-- `arrival_at` meets its contract: each field as it was read. Assumes nothing.
+use Rattle.homes.specs.HomeCode.{arrival-read}
+use borrow.Author.Needs.{needs}
+use Rattle.homes.proofs.home.arrival_at.Statement.{statement}
+use Rattle.homes.proofs.home.arrival_at.Tie as tie
+
+returns : tie.Need-returns
+returns c =
+    let d = c .before .before .before .before .before in
+    arrival-read _ _ _ _ _ (d .before .before .state-at .ensures) (d .before .shared-in .ensures) (d .dropped-item .ensures) (c .before .before .before .before .state-at2 .ensures) (c .before .before .before .kept-of .ensures) (c .before .before .current-of .ensures) (c .before .current-left .ensures) (c .kept-of2 .ensures)
+
+pub arrival-at-spec : {M : Type 1} → statement M
+arrival-at-spec =
+    tie.close
+    (tie.spec
+    (λ c κs. search needs)
+    (λ c κs. search needs)
+    (λ c κs. search needs)
+    (λ c κs. search needs)
+    (λ c κs. search needs)
+    (λ c κs. search needs)
+    (λ c κs. search needs)
+    (λ c κs. search needs)
+    returns)
