@@ -19,7 +19,8 @@ use Rattle.calls.specs.Read.{fetches, serverOf, served, serverChanges, r
 use Rattle.homes.specs.Kept.{Live, Kept, live-test}
 use Rattle.homes.specs.SoundTells.{formed-at, copies-agree}
 use Rattle.homes.specs.Safe.{safe-with}
-use Rattle.homes.specs.SafeKept.{moreAt, safeAt, more-here, safe-begins, safe-keeps}
+use Rattle.homes.specs.SafeKept.{safeAt, safe-begins, safe-keeps}
+use Rattle.homes.specs.KeptOn.{moreAt, more-here}
 use Rattle.homes.specs.Placed.{placed}
 use Rattle.calls.specs.ReadDone.{servedAfter, Serving, Answered, Fetched, ReadDone}
 use Rattle.calls.specs.ReadEntry.{server-steps, reader-steps}
@@ -72,7 +73,7 @@ module _ (g : Geometry) (v : View) (phase number n b : ℕ) (good : SoundTable g
   reader-local :
       current (v .entry n b) ≡ invalid → (x : ℕ) → Steps (safe n b) (λ e. e ≡ placed (v .entry n b) shared x) (v .entry n b) (readerChanges (v .entry n b) x)
   reader-local z x =
-      let q : moreAt g v n b frameFor n b ≡ 1 = more-here g v n b frameFor ∙ rw (eq-eqb (current (v .entry n b)) invalid z) in
+      let q : moreAt n b frameFor n b ≡ 1 = more-here n b frameFor ∙ rw (eq-eqb (current (v .entry n b)) invalid z) in
       steps-map (λ e s _ _. safe-with (omega arith) s) (λ e z. z)
       (reader-steps (v .entry n b) (formed-at g v phase number good n b own-live (a .place .item)) z x)
 

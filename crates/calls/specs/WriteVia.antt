@@ -19,7 +19,8 @@ use Rattle.calls.specs.Write.{writeNeeds, otherChange, otherChanges, oth
 use Rattle.homes.specs.Kept.{Live, Kept, live-test}
 use Rattle.homes.specs.SoundTells.{no-precommit, formed-at}
 use Rattle.homes.specs.Safe.{safe-with}
-use Rattle.homes.specs.SafeKept.{safeAt, more-here, safe-begins, safe-keeps}
+use Rattle.homes.specs.SafeKept.{safeAt, safe-begins, safe-keeps}
+use Rattle.homes.specs.KeptOn.{more-here}
 use Rattle.calls.specs.Written.{away, Written}
 use Rattle.calls.specs.WriteEntry.{extra, other-steps, own-steps}
 
@@ -59,7 +60,7 @@ module _ (g : Geometry) (v : View) (phase number n b x : ℕ) (good : SoundTable
 
   own-local : Steps (safe n b) (λ e. e ≡ away (v .entry n b) modified x) (v .entry n b) (ownChanges (v .entry n b) x)
   own-local =
-      let q = more-here g v n b (extra (v .entry n b)) in
+      let q = more-here n b (extra (v .entry n b)) in
       steps-map (λ e s _ _. safe-with (omega arith) s) (λ e z. z) (own-steps (v .entry n b) (formed-at g v phase number good n b own-live (a .place .item)) x)
 
   pub write-via : Via g (Each safe v) (Written g n b x v) v (writeStores g v n b x)

@@ -12,7 +12,9 @@ use Rattle.table.specs.declared.answers.Refusal.the-variants.{NoHome}
 use Rattle.table.specs.Words.{keptOf, shared, precommit1, precommit2}
 use Rattle.table.specs.Stores.{Store, Stored, entryStore, stateTo, stored-then, stored-two}
 use Rattle.table.specs.View.{View, view, current}
-use Rattle.table.specs.Answers.{Plan, refuse, nothingLeft, carry}
+use Rattle.table.specs.declared.answers.Answer.{Answer}
+use Rattle.table.specs.Answers.{Plan, refuse, nothingLeft, carry, Meets}
+use Rattle.homes.specs.Plans.{meets-as}
 use Rattle.homes.specs.declared.places.Place.the-variants.{Current}
 use Rattle.homes.specs.declared.home.Arrival.{Arrival}
 use Rattle.checkpoints.specs.Checkpoint.{ownerOf, dirty, dirtyItem}
@@ -47,6 +49,12 @@ module _ (g : Geometry) (v : View) {b : ℕ} (h : b ≡ dirtyItem g v) where
   next-owned l =
       let k : b ≡ first (dirty g v) (g .items) = h in
       ltb-true (ownerOf g v b) (g .nodes) (ap (dirty g v) k ∙ first-passes (dirty g v) (g .items) (omega arith))
+
+-- its plan, carried out, is the whole answer
+pub next-meets :
+    (g : Geometry) (b : ℕ) {limit : ℕ} {t t′ : List ℕ} {r : Answer} → b ≡ dirtyItem g (view g t) → b < g .items
+    → Meets (itemPlan g (view g t) b) limit t t′ r → Meets (createPlan g (view g t)) limit t t′ r
+next-meets g b {t = t} h l m = meets-as (next-plan g (view g t) h l) m
 
 -- ---- its stores: the owner o, and a sharer s or a home h
 

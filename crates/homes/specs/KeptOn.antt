@@ -1,7 +1,7 @@
 -- A call that changes entries one after the other: from any view that it has reached, what holds of one entry more keeps what Kept says.
 use Prim.Native.Nat.{ℕ, _+_, _≤_, _<_}
 use mathlib.Core.Path.{_≡_, refl, subst, _∙_}
-use mathlib.Core.Bool.{false, _&&_}
+use mathlib.Core.Bool.{false, cond, _&&_}
 use mathlib.Core.List.{List, map}
 use native.Mathlib.Omega.{arith}
 use native.Mathlib.Decide.{ℕ-discrete}
@@ -18,24 +18,32 @@ use Rattle.entries.specs.SoundFacts.{SoundTable}
 use Rattle.homes.specs.Kept.{Live, Kept, live-test}
 use Rattle.homes.specs.FramesKept.{uses, used-no-more, used-more, used-elsewhere}
 use Rattle.homes.specs.Safe.{Safe, safe-with}
-use Rattle.homes.specs.SafeKept.{moreAt, more-here}
+use Rattle.homes.specs.SoundTells.{formed-at}
 
 -- nothing stored yet
 pub kept-begins : (g : Geometry) (v : View) (phase number : ℕ) → SoundTable g v phase number → Kept g v v
 kept-begins g v phase number good = record {
   back = λ n b l h. refl;
-  forms = λ n b l h. good .forms n b (l .there) h (live-test g v n l);
+  forms = formed-at g v phase number good;
   frames = λ n s l h. good .frames n s (l .there) h (live-test g v n l);
   marks = refl;
 }
 
+-- the frames that a call may need, at its own entry only: node n, item b
+module _ (n b d : ℕ) where
+  abbrev pub moreAt : ℕ → ℕ → ℕ
+  moreAt k c = cond (eqb k n && eqb c b) d 0
+
+  pub more-here : moreAt n b ≡ d
+  more-here = rw (eq-eqb n n refl, eq-eqb b b refl)
+
 -- v at entry, u reached, w later: node n's entry of item b may use d frames more than in u
 module _ (g : Geometry) (v u : View) (sofar : Kept g v u) (n b d : ℕ) (own : Live g v n) (item : b < g .items)
     (room : used g u n (setOf g b) + d ≤ setFrames g) where
-  abbrev onAt : ℕ → ℕ → Entry → Type 0
-  onAt k c e = Live g v k → c < g .items → Safe (u .entry k c) (moreAt g u n b d k c) e
+  abbrev pub onAt : ℕ → ℕ → Entry → Type 0
+  onAt k c e = Live g v k → c < g .items → Safe (u .entry k c) (moreAt n b d k c) e
 
-  kept-on : (w : View) → Each onAt v w → Kept g v w
+  pub kept-on : (w : View) → Each onAt v w → Kept g v w
   kept-on w s = record {
     back = λ k c l h. s .entries k c l h .back ∙ sofar .back k c l h;
     forms = λ k c l h. s .entries k c l h .form;
@@ -56,7 +64,7 @@ module _ (g : Geometry) (v u : View) (sofar : Kept g v u) (n b d : ℕ) (own : L
       own-others c h q = unchanged n c (rw (eq-eqb n n refl, ne-eqb c b q)) own h
 
       own-uses : uses g u w n b d
-      own-uses = let q = more-here g u n b d in let p = s .entries n b own item .frames in omega arith
+      own-uses = let q = more-here n b d in let p = s .entries n b own item .frames in omega arith
 
       own-frames : (t : ℕ) → t < setsOf g → used g w n t ≤ setFrames g
       own-frames t h = elim (ℕ-discrete (setOf g b) t) [
@@ -74,7 +82,7 @@ module _ (g : Geometry) (v u : View) (sofar : Kept g v u) (n b d : ℕ) (own : L
       (z : Entry → Type 0) {cs : List Change} → Steps (Safe (u .entry n b) d) z (u .entry n b) cs
       → Via g (Kept g v) (Changed z n b u) u (map (entryStore n b) cs)
   on-via z {cs} h =
-      let q = more-here g u n b d in
+      let q = more-here n b d in
       via-loosen
       (entry-via g onAt v z n b (own .there) item u begins {cs = cs} (steps-map (λ e s _ _. safe-with (omega arith) s) (λ e x. x) h))
       kept-on

@@ -12,9 +12,9 @@ pub mod Safe
 pub mod Placed
 pub mod SoundTells
 pub mod FramesKept
-pub mod SafeKept
 pub mod SoundKept
 pub mod KeptOn
+pub mod SafeKept
 pub mod OneEntry
 pub mod EvictEntry
 pub mod Moving

@@ -1,6 +1,6 @@
 -- `create_next` meets its contract: an item, or 17. Assumes nothing.
-use Rattle.checkpoints.specs.CreateCode.{none-left, next-plan, next-owned}
-use Rattle.homes.specs.Plans.{meets-nothing, meets-as}
+use Rattle.checkpoints.specs.CreateCode.{none-left, next-owned, next-meets}
+use Rattle.homes.specs.Plans.{meets-nothing}
 use borrow.Author.Needs.{needs}
 use Rattle.checkpoints.proofs.create.create_next.Statement.{statement}
 use Rattle.checkpoints.proofs.create.create_next.Tie as tie
@@ -9,10 +9,7 @@ create-item-requires : tie.Need-create-item-requires
 create-item-requires c κs = next-owned _ _ (c .before .before .dirty-item .ensures) (c .before .if1 .taken)
 
 returns : tie.Need-returns
-returns c =
-    let s = c .before .before in
-    let i = s .before .before in
-    meets-as (next-plan _ _ (i .before .dirty-item .ensures) (i .if1 .taken)) (s .create-item .ensures)
+returns c = search next-meets
 
 returns-2 : tie.Need-returns-2
 returns-2 c = meets-nothing _ _ (none-left _ _ (c .before .dirty-item .ensures) (c .if1 .left))
