@@ -32,8 +32,7 @@ use Rattle.checkpoints.specs.KindMoved.{not-precommit}
 use Rattle.checkpoints.specs.CommitTheorem.{carried, facts}
 use Rattle.checkpoints.specs.CommitSound.{not-owned}
 
--- ---- sums
-
+-- four for each that passes a test
 sum-four : (p : ℕ → Bool) (n : ℕ) → sum (λ i. 4 * one (p i)) n ≡ 4 * count p n
 unfolding sum count
 sum-four p zero = refl

@@ -123,7 +123,7 @@ unfolding sum
 sum-nothing zero = refl
 sum-nothing (suc n) = omega (arith, sum-nothing n)
 
--- of two bounds, either first
+-- two sums, either one first
 pub sum-swap : (f : ℕ → ℕ → ℕ) (n m : ℕ) → sum (λ i. sum (f i) m) n ≡ sum (λ j. sum (λ i. f i j) n) m
 unfolding sum
 sum-swap f zero m = sym (sum-nothing m)
