@@ -25,7 +25,7 @@ use Rattle.calls.specs.ReadTheorem.{read-keeps, read-value, read-read}
 use Rattle.homes.specs.SoundKept.{Off, entry-off, shape-after, kind-same, sound-kept}
 use Rattle.calls.specs.ReadKind.{kind-read}
 
-read-off : (g : Geometry) (v : View) (n b : ℕ) → All (Off g) (readStores g v n b)
+pub read-off : (g : Geometry) (v : View) (n b : ℕ) → All (Off g) (readStores g v n b)
 unfolding readStores fetchFrom
 read-off g v n b = go (fetches (v .entry n b))
   where

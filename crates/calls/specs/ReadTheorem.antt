@@ -19,7 +19,7 @@ use Rattle.calls.specs.ReadDone.{Answered, ReadDone}
 use Rattle.calls.specs.ReadVia.{read-answers, read-via, safe-kept}
 
 module _ (t : List ℕ) (n b : ℕ) {g : Geometry} {value : ℕ} {ss : List Store} (accepted : readOf t n b ≡ carry g value ss) where
-  carried : Carried (λ g v. readAdmission g v n b) (λ g v. readStores g v n b) t g ss
+  pub carried : Carried (λ g v. readAdmission g v n b) (λ g v. readStores g v n b) t g ss
   carried = acted-carried (λ g v. readAdmission g v n b) (λ g v. readValue g v n b) (λ g v. readStores g v n b) t accepted
 
   value-is : value ≡ readValue g (view g t) n b

@@ -85,7 +85,7 @@ module _ (g : Geometry) (n b x : ℕ) (v w : View) (own : Live g v n) (z : Writt
           | no d ↦ kind-same v w (g .nodes) c phase (z .marks) (λ k l. z .rest k c d) (good .items c h)
         ])
 
-write-off : (g : Geometry) (v : View) (n b x : ℕ) → All (Off g) (writeStores g v n b x)
+pub write-off : (g : Geometry) (v : View) (n b x : ℕ) → All (Off g) (writeStores g v n b x)
 unfolding writeStores otherStores
 write-off g v n b x = all-then (pass-off g (λ k. k) (λ k. b) (otherChanges v n b) (g .nodes)) (entry-off g n b (ownChanges (v .entry n b) x))
 

@@ -117,7 +117,7 @@ module _
       marks-sound g v w 0 number abandon-marks phase number good (omega arith) (number-fits g v phase number good some) (λ e. absurd (omega arith))
       (keeps .forms) (keeps .frames) (λ b h. abandoned-kind b h (good .items b h))
 
-abandon-off : (g : Geometry) (v : View) → All (Off g) (abandonStores g v)
+pub abandon-off : (g : Geometry) (v : View) → All (Off g) (abandonStores g v)
 unfolding abandonStores
 abandon-off g v = all-then (entries-off g v (closeChange Abandoned)) (marks-off g v runningMark)
 

@@ -39,7 +39,7 @@ module _ (e : Entry) (z : current e ≡ 0) where
       go true = let l = code in current-state (changeOf (current e) Commit) 0 (omega arith) (omega arith) ∙ code
       go false = z
 
-  no-forward : copyNumber (forwardCopy e) ≡ 0
+  pub no-forward : copyNumber (forwardCopy e) ≡ 0
   no-forward = forward-number e (omega arith) ∙ rw z refl
 
 module _ (g : Geometry) (v w : View) (values : ℕ → ℕ) (lives : (n : ℕ) → Live g w n → Live g v n) (z : CommitEnd g v w) (h : CurrentHave g v values) where

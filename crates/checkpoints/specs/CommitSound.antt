@@ -177,7 +177,7 @@ module _
       marks-sound g v w 0 (number + 1) commit-marks phase number good (omega arith) (omega (arith, room)) (λ e. absurd (omega arith))
       (keeps .forms) (keeps .frames) (λ b h. clean (committed-saves b h .clean-after))
 
-commit-off : (g : Geometry) (v : View) → All (Off g) (commitStores g v)
+pub commit-off : (g : Geometry) (v : View) → All (Off g) (commitStores g v)
 unfolding commitStores
 commit-off g v = all-then (all-then (marks-off g v committingMark) (entries-off g v (closeChange Committed))) (marks-off g v committedMark)
 

@@ -204,7 +204,7 @@ home-off g place h b code value a = go (a .takeover)
     go true = entry-off g h b (stateTo code (a .kept) ∷ [])
     go false = all-then (drop-off g h a) (entry-off g h b (arrivalChanges place code value a))
 
-create-off : (g : Geometry) (v : View) (b o : ℕ) → All (Off g) (createItem g v b o)
+pub create-off : (g : Geometry) (v : View) (b o : ℕ) → All (Off g) (createItem g v b o)
 unfolding createItem partnerStores homeStores
 create-off g v b o = all-then (entry-off g o b (stateTo precommit1 (kept (v .entry o b)) ∷ [])) (go (hasSharer g v b))
   where

@@ -151,7 +151,7 @@ module _
           ]
         ]
 
-        moving-back : BackHave g w saved
+        pub moving-back : BackHave g w saved
         moving-back k c l i q = elim (ℕ-discrete c b) [
           | yes e ↦ rw e (item-back k (lives k l) (λ y. q (ap (λ c. copyNumber (backCopy (w .entry k c))) e ∙ y)))
           | no y ↦ had k k c (m .back k c (lives k l) i (λ _ e. y e) (λ _ e. y e)) (lives k l) i q

@@ -51,7 +51,7 @@ home-off g place h b code value a = go (a .takeover) (a .drops)
     go false true = all-then (entry-off g h (a .dropped) (stateTo invalid (a .beside) ∷ [])) (entry-off g h b (arrivalChanges place code value a))
     go false false = entry-off g h b (arrivalChanges place code value a)
 
-evict-off : (g : Geometry) (v : View) (place : Place) (n b : ℕ) → All (Off g) (evictStores g v place n b)
+pub evict-off : (g : Geometry) (v : View) (place : Place) (n b : ℕ) → All (Off g) (evictStores g v place n b)
 unfolding evictStores movedTo homeStores sourceStores
 evict-off g v place n b = all-then (go (dropped place (v .entry n b))) (entry-off g n b (stateLeft place (v .entry n b .state) ∷ []))
   where

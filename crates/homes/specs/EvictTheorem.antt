@@ -61,7 +61,7 @@ module _ (g : Geometry) (v : View) (phase number n b : ℕ) (good : SoundTable g
       same (inr e) = e
 
 module _ (t : List ℕ) (n b : ℕ) (place : Place) {g : Geometry} {value : ℕ} {ss : List Store} (accepted : evictOf t n b place ≡ carry g value ss) where
-  carried : Carried (λ g v. evictAdmission g v place n b) (λ g v. evictStores g v place n b) t g ss
+  pub carried : Carried (λ g v. evictAdmission g v place n b) (λ g v. evictStores g v place n b) t g ss
   carried = acted-carried (λ g v. evictAdmission g v place n b) (λ g v. 0) (λ g v. evictStores g v place n b) t accepted
 
   facts : Accepted t g (phaseIn g (view g t)) (numberIn g (view g t))
@@ -73,7 +73,7 @@ module _ (t : List ℕ) (n b : ℕ) (place : Place) {g : Geometry} {value : ℕ}
   leaving : Leaving g (view g t) place n b
   leaving = evict-leaving g (view g t) place n b (carried .admitted)
 
-  from : Live g (view g t) n
+  pub from : Live g (view g t) n
   from = record { there = admits .node; marked = admits .live }
 
   closed : phaseIn g (view g t) ≢ 1

@@ -1,0 +1,24 @@
+-- `roll_change` meets its contract: an Inv-CK that comes back, or one state store. Assumes nothing.
+use mathlib.Core.List.{map}
+use mathlib.Core.Path.{ap}
+use Rattle.table.specs.Stores.{entryStore, stored-as}
+use Rattle.recovery.specs.RollingCode.{roll-back, roll-settles}
+use borrow.Author.Needs.{needs}
+use Rattle.recovery.proofs.rolling.roll_change.Statement.{statement}
+use Rattle.recovery.proofs.rolling.roll_change.Tie as tie
+
+pub roll-change-spec : {M : Type 1} → statement M
+roll-change-spec =
+    tie.close
+    (tie.spec
+    (λ c κs. search needs)
+    (λ c κs. search needs)
+    (λ c κs. search needs)
+    (λ c κs. search needs)
+    (λ c. search needs)
+    (λ c. let s = c .before .before in let i = s .before .before in let k = i .before in let u = k .before in let e = u .before in stored-as (ap (map (entryStore _ _)) (roll-back _ (e .state-at .ensures) (u .current-of .ensures) (k .kept-of .ensures) _ (i .if1 .taken))) (s .bring-back .ensures))
+    (λ c κs. search needs)
+    (λ c κs. search needs)
+    (λ c κs. search needs)
+    (λ c. search needs)
+    (λ c. let s = c .before .before in let x = s .before .before in let v = x .before in let i = v .before in let k = i .before in let u = k .before in let e = u .before in stored-as (ap (map (entryStore _ _)) (roll-settles _ (e .state-at .ensures) (u .current-of .ensures) (k .kept-of .ensures) _ (i .if1 .left) (v .side-event .ensures) (x .change .ensures))) (s .settle .ensures)))

@@ -1,0 +1,23 @@
+-- DEMAND 2 holds.
+use mathlib.Core.Path.{_∙_}
+use Rattle.table.specs.View.{view}
+use Rattle.homes.specs.Kept.{test-live}
+use Rattle.calls.specs.ReadServes.{read-answers}
+use Rattle.recovery.specs.Run.{geometryIn}
+use Rattle.recovery.specs.Demand2.{Demand2}
+use Rattle.recovery.specs.HomeRefused.{evict-home, create-home}
+use Rattle.recovery.specs.HitReady.{live-inside}
+use Rattle.recovery.specs.HistoryTheorem.{history-good}
+use Rattle.recovery.specs.LastWritten.{last-written}
+
+pub demand2 : Demand2
+demand2 = record {
+  read-value = λ {t} {memory} {commits} history n b accepted.
+      read-answers t (geometryIn t) _ _ commits (history-good history .serves) n b accepted ∙ last-written history b;
+  read-memory = λ {t} {memory} {commits} history n b accepted. read-answers t (geometryIn t) _ _ commits (history-good history .serves) n b accepted;
+  never-refused = λ history. history-good history .serves .passed;
+  point-number = λ {t} history n l.
+      history-good history .serves .number-is n (test-live (geometryIn t) (view (geometryIn t) t) n (live-inside (geometryIn t) t n l) l);
+  evict-home = evict-home;
+  create-home = create-home;
+}

@@ -1,0 +1,79 @@
+-- A whole Recover of a table that serves, naming any node or none: the values are those saved.
+use Prim.Native.Nat.{ℕ}
+use mathlib.Core.Path.{_≡_, sym, _∙_}
+use mathlib.Core.Logic.{_≢_}
+use mathlib.Core.Bool.{Bool, true, false, cond, not}
+use mathlib.Core.List.{List}
+use native.Mathlib.Omega.{arith}
+use lib.Dec.{ltb}
+use lib.ListN.{length}
+use Rattle.table.specs.declared.geometry.Geometry.{Geometry}
+use Rattle.table.specs.declared.answers.Refusal.{Refusal}
+use Rattle.table.specs.Stores.{Store, after}
+use Rattle.table.specs.View.{view}
+use Rattle.table.specs.Answers.{Plan, refuse, nothingLeft, carry}
+use Rattle.entries.specs.declared.check.Checked.{Checked}
+use Rattle.entries.specs.declared.check.Checked.the-variants.{Passed, Failed}
+use Rattle.entries.specs.Check.{sizesOf}
+use Rattle.entries.specs.CheckFacts.{accepted-facts, facts-sizes}
+use Rattle.homes.specs.Kept.{Kept}
+use Rattle.homes.specs.KeptOn.{kept-begins}
+use Rattle.recovery.specs.declared.lost.Lost.{Lost}
+use Rattle.recovery.specs.Survivors.{survivors, lostOutside}
+use Rattle.recovery.specs.Sides.{itemsFit}
+use Rattle.recovery.specs.Recover.{recoverStores, scratchWords, survivorsFormed, tooFew, recoverSized, recoverChecked, recoverOf}
+use Rattle.recovery.specs.RecoverPlan.{recover-carries}
+use Rattle.recovery.specs.Ready.{Ready}
+use Rattle.recovery.specs.RecoverTheorem.{recover-serves}
+use Rattle.recovery.specs.KeptReady.{kept-ready}
+use Rattle.recovery.specs.Memory.{Memory, valueIn, savedIn}
+use Rattle.recovery.specs.Run.{geometryIn}
+use Rattle.recovery.specs.Good.{Good, good-by}
+
+-- ---- it never answers 17
+
+something : (a : Bool) (r : Refusal) (p : Plan) → p ≢ nothingLeft → cond a (refuse r) p ≢ nothingLeft
+something true r p d e = let z : _≡_ {A = ℕ} 0 1 = cc in omega arith
+something false r p d e = d e
+
+pub recover-something : (t : List ℕ) (lost : Lost) (scratch : ℕ) → recoverOf t lost scratch ≢ nothingLeft
+unfolding recoverOf recoverChecked recoverSized
+recover-something t lost scratch e = go (sizesOf t) e
+  where
+    go : (c : Checked) → recoverChecked t lost scratch c ≢ nothingLeft
+    go (Failed r) e = let z : _≡_ {A = ℕ} 0 1 = cc in omega arith
+    go (Passed g) e =
+        let w = survivors lost (view g t) in
+        something (lostOutside g lost) _ _
+        (something (ltb scratch (scratchWords g)) _ _
+        (something (not (survivorsFormed g w)) _ _
+        (something (tooFew g w) _ _
+        (something (not (itemsFit g w)) _ _ (λ (e : carry g 0 (recoverStores g lost (view g t)) ≡ nothingLeft). let z : _≡_ {A = ℕ} 0 1 = cc in omega arith))))) e
+
+-- ---- nothing was cut
+
+module _ (t : List ℕ) (memory : Memory) (commits : ℕ) (good : Good t memory commits) where
+  abbrev G : Geometry
+  G = geometryIn t
+
+  pub good-sizes : sizesOf t ≡ Passed G
+  good-sizes = facts-sizes t G (accepted-facts t G (good .serves .passed) .shape)
+
+  pub good-kept : Kept G (view G t) (view G t)
+  good-kept = kept-begins G (view G t) _ _ (accepted-facts t G (good .serves .passed) .table)
+
+  pub good-ready : (lost : Lost) → Ready G (savedIn memory) commits (survivors lost (view G t))
+  good-ready lost = kept-ready t G (valueIn memory) (savedIn memory) commits (good .serves) (view G t) good-kept lost
+
+  pub recover-good :
+      (lost : Lost) (scratch : ℕ) (g : Geometry) (x : ℕ) (ss : List Store) → recoverOf t lost scratch ≡ carry g x ss
+      → Good (after g (length ss) ss t) (record { values = memory .saved; saved = memory .saved }) commits
+  recover-good lost scratch g x ss e =
+      let c = recover-carries t lost scratch e in
+      let p : Passed g ≡ Passed G = sym (c .passed) ∙ good-sizes in
+      let same : g ≡ G = cc in
+      let list : ss ≡ recoverStores G lost (view G t) = rw same at (c .stores-are) in
+      rw (same, list)
+      (good-by _ G _ commits
+      (recover-serves t G (savedIn memory) commits lost good-sizes (rw same at (c .inside)) (good-ready lost) (rw same at (c .enoughNodes))
+      (length (recoverStores G lost (view G t))) (omega arith)) (good .saved-size) (good .saved-size))

@@ -1,0 +1,96 @@
+-- What an accepted Recover tells, and that with too few survivors none is accepted.
+use Prim.Native.Nat.{ℕ, _≤_}
+use mathlib.Core.Path.{_≡_, refl, sym, ap, _∙_}
+use mathlib.Core.Bool.{Bool, true, false, not, cond}
+use mathlib.Core.List.{List}
+use native.Mathlib.Omega.{arith}
+use lib.Dec.{ltb}
+use borrow.Author.Tests.{ltb-false, le-ltb}
+use Rattle.counting.specs.Tests.{no-both}
+use Rattle.table.specs.declared.geometry.Geometry.{Geometry}
+use Rattle.table.specs.declared.answers.Refusal.{Refusal}
+use Rattle.table.specs.declared.answers.Refusal.the-variants.{NotSound, NoNode, TooFewNodes, NoRecoveryCopy, ShortScratch}
+use Rattle.table.specs.Stores.{Store}
+use Rattle.table.specs.View.{view}
+use Rattle.table.specs.Answers.{Plan, refuse, carry}
+use Rattle.entries.specs.declared.check.Checked.{Checked}
+use Rattle.entries.specs.declared.check.Checked.the-variants.{Passed, Failed}
+use Rattle.entries.specs.Check.{sizesOf}
+use Rattle.recovery.specs.declared.lost.Lost.{Lost}
+use Rattle.recovery.specs.Survivors.{survivors, lostOutside}
+use Rattle.recovery.specs.Sides.{itemsFit}
+use Rattle.recovery.specs.Recover.{recoverStores, scratchWords, survivorsFormed, tooFew, recoverSized, recoverChecked, recoverOf}
+
+-- none of the refusals, and the stores
+pub record Carries (t : List ℕ) (lost : Lost) (scratch : ℕ) (g : Geometry) (ss : List Store) : Type 0 where
+  pub passed : sizesOf t ≡ Passed g
+  pub inside : lostOutside g lost ≡ false
+  pub enough : scratchWords g ≤ scratch
+  pub formed : survivorsFormed g (survivors lost (view g t)) ≡ true
+  pub enoughNodes : tooFew g (survivors lost (view g t)) ≡ false
+  pub fit : itemsFit g (survivors lost (view g t)) ≡ true
+  pub stores-are : ss ≡ recoverStores g lost (view g t)
+
+pub refused-not : {r : Refusal} {g : Geometry} {x : ℕ} {ss : List Store} → refuse r ≡ carry g x ss → ⊥
+refused-not e = let z : _≡_ {A = ℕ} 0 1 = cc in omega arith
+
+not-false : (a : Bool) → not a ≡ false → a ≡ true
+not-false true h = refl
+not-false false h = absurd (no-both refl h)
+
+-- a refusal that is the next one: it does not hold, and what comes after it is the plan
+next : (a : Bool) (r : Refusal) (p : Plan) {g : Geometry} {x : ℕ} {ss : List Store} → cond a (refuse r) p ≡ carry g x ss → (a ≡ false) × (p ≡ carry g x ss)
+next true r p e = absurd (refused-not e)
+next false r p e = (refl, e)
+
+-- turned down
+pub record Refuses (p : Plan) : Type 0 where
+  pub number : Refusal
+  pub plan : p ≡ refuse number
+
+passes : (a : Bool) (r : Refusal) (p : Plan) → Refuses p → Refuses (cond a (refuse r) p)
+passes true r p h = record { number = r; plan = refl }
+passes false r p h = h
+
+module _ (t : List ℕ) (lost : Lost) (scratch : ℕ) where
+  pub recover-carries : {g : Geometry} {x : ℕ} {ss : List Store} → recoverOf t lost scratch ≡ carry g x ss → Carries t lost scratch g ss
+  unfolding recoverOf recoverChecked recoverSized
+  recover-carries {g} {x} {ss} e = go (sizesOf t) refl e
+    where
+      go : (c : Checked) → c ≡ sizesOf t → recoverChecked t lost scratch c ≡ carry g x ss → Carries t lost scratch g ss
+      go (Failed r) p e = absurd (refused-not e)
+      go (Passed h) p e =
+          let w = survivors lost (view h t) in
+          let (a, e₁) = next (lostOutside h lost) NoNode _ e in
+          let (b, e₂) = next (ltb scratch (scratchWords h)) ShortScratch _ e₁ in
+          let (c, e₃) = next (not (survivorsFormed h w)) NotSound _ e₂ in
+          let (d, e₄) = next (tooFew h w) TooFewNodes _ e₃ in
+          let (f, e₅) = next (not (itemsFit h w)) NoRecoveryCopy _ e₄ in
+          let same : h ≡ g = cc in
+          let list : recoverStores h lost (view h t) ≡ ss = cc in
+          rw (← same) (record {
+            passed = sym p;
+            inside = a;
+            enough = ltb-false _ _ b;
+            formed = not-false _ c;
+            enoughNodes = d;
+            fit = not-false _ f;
+            stores-are = sym list;
+          })
+
+  -- with none of the refusals
+  pub carries-recover : {g : Geometry} {ss : List Store} → Carries t lost scratch g ss → recoverOf t lost scratch ≡ carry g 0 (recoverStores g lost (view g t))
+  unfolding recoverOf recoverChecked recoverSized
+  carries-recover {g} c =
+      ap (recoverChecked t lost scratch) (c .passed)
+      ∙ rw (c .inside, enough, c .formed, c .enoughNodes, c .fit) refl
+    where
+      enough : ltb scratch (scratchWords g) ≡ false
+      enough = le-ltb scratch (scratchWords g) (c .enough)
+
+  -- 14's condition: it is refused, with 14 or with what comes before it
+  pub few-refused : {g : Geometry} → sizesOf t ≡ Passed g → tooFew g (survivors lost (view g t)) ≡ true → Refuses (recoverOf t lost scratch)
+  unfolding recoverOf recoverChecked recoverSized
+  few-refused {g} p few =
+      rw (p, few) (passes (lostOutside g lost) NoNode _ (passes (ltb scratch (scratchWords g)) ShortScratch _
+      (passes (not (survivorsFormed g (survivors lost (view g t)))) NotSound _ (record { number = TooFewNodes; plan = refl }))))

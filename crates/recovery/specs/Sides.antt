@@ -1,0 +1,47 @@
+-- The side that a recovery takes: "Roll forward if a survivor has phase 2, else roll back".
+use Prim.Native.Nat.{ℕ}
+use mathlib.Core.Bool.{Bool, true, false, cond, not, _&&_}
+use lib.Dec.{eqb}
+use Rattle.counting.specs.declared.values.Values.{Values}
+use Rattle.counting.specs.Counting.{every}
+use Rattle.counting.specs.Values.{valuesOf}
+use Rattle.table.specs.declared.geometry.Geometry.{Geometry}
+use Rattle.table.specs.declared.changes.Event.{Event}
+use Rattle.table.specs.declared.changes.Event.the-variants.{RollBack, RollForward}
+use Rattle.table.specs.Words.{phaseOf}
+use Rattle.table.specs.View.{Entry, View, live}
+use Rattle.table.specs.Copies.{Copy, backCopy, copyNumber, copyValue}
+use Rattle.checkpoints.specs.Forward.{forwardCopy}
+use Rattle.recovery.specs.Exists.{exists}
+
+-- node n has phase 2
+abbrev pub commits : View → ℕ → Bool
+commits w n = live w n && eqb (phaseOf (w .mark n)) 2
+
+-- w is the view of the survivors
+unfoldable pub forwardIn : Geometry → View → Bool
+forwardIn g w = exists (commits w) (g .nodes)
+
+-- the column of the state table
+abbrev pub sideEvent : Bool → Event
+sideEvent true = RollForward
+sideEvent false = RollBack
+
+-- the recovery copy of an entry on a side
+abbrev pub copyOn : Bool → Entry → Copy
+copyOn forward e = cond forward (forwardCopy e) (backCopy e)
+
+-- node n is live and has a recovery copy of item b on a side
+abbrev pub hasCopy : Bool → View → ℕ → ℕ → Bool
+hasCopy forward w b n = live w n && not (eqb (copyNumber (copyOn forward (w .entry n b))) 0)
+
+-- the recovery copies of an item among the survivors
+unfoldable pub copiesOn : Geometry → Bool → View → ℕ → Values
+copiesOn g forward w b = valuesOf (g .nodes) (hasCopy forward w b) (λ n. copyValue (copyOn forward (w .entry n b)))
+
+-- 15: "an item without a recovery copy on the chosen side, or two that differ"
+unfoldable pub itemFits : Geometry → Bool → View → ℕ → Bool
+itemFits g forward w b = copiesOn g forward w b .seen && copiesOn g forward w b .equal
+
+unfoldable pub itemsFit : Geometry → View → Bool
+itemsFit g w = every (itemFits g (forwardIn g w) w) (g .items)

@@ -1,0 +1,8 @@
+// Recovery after the loss of a node, or of none; a call as a value.
+pub mod call;
+mod closing;
+pub mod lost;
+mod numbering;
+mod rolling;
+pub mod sides;
+pub mod survivors;

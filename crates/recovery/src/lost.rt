@@ -1,0 +1,5 @@
+// The node that a Recover names, or that it names none.
+pub enum Lost {
+    Nobody,
+    Node(u64),
+}

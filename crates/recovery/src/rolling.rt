@@ -1,0 +1,133 @@
+// Rolling: the entries of the survivors go to the side that a recovery takes.
+ghost use Prim.Native.Nat.{_<_, _≤_};
+ghost use lib.ListN.{length};
+ghost use Rattle.table.specs.Geometry.{wordsOf};
+ghost use Rattle.table.specs.Stores.{Stored, StoredIn};
+ghost use Rattle.table.specs.View.{view};
+ghost use Rattle.table.specs.Pass.{pass};
+ghost use Rattle.checkpoints.specs.Checkpoint.{liveChanges, entriesTo};
+ghost use Rattle.recovery.specs.Survivors.{survivors};
+ghost use Rattle.recovery.specs.Rolling.{bringBack, settled, rollChange};
+ghost use Rattle.recovery.specs.RollingCode.{cleared};
+use crate::lost::Lost;
+use crate::sides;
+use crate::survivors;
+use table::changes;
+use table::geometry::Geometry;
+use table::stores;
+use table::words;
+
+// An entry with this current place and nothing kept: one state store where it changes.
+pub(crate) fn settle(
+    table: &mut [u64],
+    left: u64,
+    g: Geometry,
+    node: u8,
+    item: u16,
+    next: u8,
+) -> u64
+    ensures { λ r. ⌜ StoredIn g left node item (settled next (view g (now (table .entry)) .entry node item)) (now (table .entry)) (now (table .exit)) r ⌝ }
+{
+    let state = stores::state_at(table, g, node, item);
+    let current = words::current_of(state);
+    let kept = words::kept_of(state);
+    if (next == current) & (kept == words::INVALID) {
+        return left;
+    }
+    stores::store_state(table, left, g, node, item, next, words::INVALID)
+}
+
+// The current place Invalid, if it was not; the kept place stays.
+fn clear_current(
+    table: &mut [u64],
+    left: u64,
+    g: Geometry,
+    node: u8,
+    item: u16,
+    current: u8,
+    kept: u8,
+) -> u64
+    ensures { λ r. ⌜ StoredIn g left node item (cleared current kept) (now (table .entry)) (now (table .exit)) r ⌝ }
+{
+    if current == words::INVALID {
+        return left;
+    }
+    stores::store_state(table, left, g, node, item, words::INVALID, kept)
+}
+
+// An Inv-CK comes back as the Shared-CK of its number.
+fn bring_back(table: &mut [u64], left: u64, g: Geometry, node: u8, item: u16) -> u64
+    ensures { λ r. ⌜ StoredIn g left node item (bringBack (view g (now (table .entry)) .entry node item)) (now (table .entry)) (now (table .exit)) r ⌝ }
+{
+    let state = stores::state_at(table, g, node, item);
+    let current = words::current_of(state);
+    let kept = words::kept_of(state);
+    let value = stores::kept_value_at(table, g, node, item);
+    let left = clear_current(table, left, g, node, item, current, kept);
+    let left = stores::store_value(table, left, g, node, item, value);
+    stores::store_state(table, left, g, node, item, 3 + kept, words::INVALID)
+}
+
+// An entry as it rolls.
+fn roll_change(table: &mut [u64], left: u64, g: Geometry, node: u8, item: u16, forward: bool) -> u64
+    ensures { λ r. ⌜ StoredIn g left node item (rollChange forward (view g (now (table .entry)) .entry node item)) (now (table .entry)) (now (table .exit)) r ⌝ }
+{
+    let state = stores::state_at(table, g, node, item);
+    let current = words::current_of(state);
+    let kept = words::kept_of(state);
+    if !forward & !(kept == words::INVALID) {
+        return bring_back(table, left, g, node, item);
+    }
+    let event = sides::side_event(forward);
+    let next = changes::change(current, event);
+    settle(table, left, g, node, item, next)
+}
+
+// The turn of one entry: a node that is no survivor is passed over.
+fn roll_entry(
+    table: &mut [u64],
+    left: u64,
+    g: Geometry,
+    lost: Lost,
+    node: u8,
+    item: u16,
+    forward: bool,
+) -> u64
+    ensures { λ r. ⌜ StoredIn g left node item (liveChanges (rollChange forward) (survivors lost (view g (now (table .entry)))) node item) (now (table .entry)) (now (table .exit)) r ⌝ }
+{
+    let mark = survivors::survivor_mark(table, g, lost, node);
+    if mark == 0 {
+        return left;
+    }
+    roll_change(table, left, g, node, item, forward)
+}
+
+// A node's entries, items ascending.
+fn roll_node(table: &mut [u64], left: u64, g: Geometry, lost: Lost, node: u8, forward: bool) -> u64
+    requires { ⌜ (node < g .nodes) × (wordsOf g ≤ length (now table)) ⌝ }
+    ensures { λ r. ⌜ Stored g left (pass (λ d. node) (λ d. d) (λ d. liveChanges (rollChange forward) (survivors lost (view g (now (table .entry)))) node d) (g .items)) (now (table .entry)) (now (table .exit)) r ⌝ }
+{
+    let items = g.items;
+    let mut left = left;
+    let mut item: u16 = 0;
+    while item < items {
+        left = roll_entry(table, left, g, lost, node, item, forward);
+        item += 1;
+    }
+    left
+}
+
+// All entries of the survivors, by node, then item.
+pub(crate) fn roll(table: &mut [u64], left: u64, g: Geometry, lost: Lost, forward: bool) -> u64
+    requires { ⌜ wordsOf g ≤ length (now table) ⌝ }
+    ensures { λ r. ⌜ Stored g left (entriesTo g (survivors lost (view g (now (table .entry)))) (rollChange forward)) (now (table .entry)) (now (table .exit)) r ⌝ }
+{
+    let nodes = g.nodes;
+    let mut left = left;
+    let mut node: u8 = 0;
+    while node < nodes {
+        left = roll_node(table, left, g, lost, node, forward);
+        node += 1;
+    }
+    left
+}
