@@ -45,7 +45,7 @@ use Rattle.recovery.specs.Rolling.{bringBack, settled, rollChange, rollS
 use Rattle.recovery.specs.Numbering.{holders, numberAfter, numberChange, numberStores}
 use Rattle.recovery.specs.Partners.{single, holderOf, takes, takesAfter, partnerOf, partnerChanges, partnerFrom, partnerStores, staged, partnersStores}
 use Rattle.recovery.specs.ClosingMarks.{largest, largestNumber, closingStores}
-use Rattle.recovery.specs.Recover.{followed, survivorStores, recoverStores, survivorsFormed, tooFewWith, tooFew, recoverSized, recoverChecked, recoverOf}
+use Rattle.recovery.specs.Recover.{followed, survivorStores, recoverStores, survivorsFormed, tooFewWith, tooFew, recoverAdmission, recoverChecked, recoverOf}
 use Rattle.recovery.specs.Call.{planOf}
 use Rattle.recovery.specs.Run.{Step, geometryIn, storeCount, planAt, tableBy, run}
 
@@ -202,5 +202,5 @@ Given [] = Unit {0}
 Given (r ∷ rs) = (r .given ≡ r .written) × Given rs
 
 pub examples-given : Given examples
-unfolding every sum count first firstOr valuesOf geometryOf changeOf runs after view markTo marksTo backBy firstEntries formatStores formatMade framesIn framesAt used framesFit itemTest marksForm phasesOf pointsOf statesForm nodeSound nodesSound itemSound itemsSound sound lengthOf sizesOf soundOf faultOf planAdmitted planChecked planBy admissionOf frameFull frameAdmission changeTo commonMark isOpen openAdmission ownsAt ownerOf dirty dirtyItem liveChanges entriesBefore commitChange closeChange sharedAt sharedItem hasFrame hasRoom placeFits fits nodeAfter fitsAfter passedOver homeOf droppedItem currentLeft arrivalOf dropStores arrivalChanges homeStoresBy homeStores servesAt serverOf fetchFrom readStores readValue otherChanges otherStores ownKeep keptAfter ownChanges writeStores sourceStores movedTo evictStores placeAdmission startAdmission sharesAt sharerOf createdPartner createItem noPartner createPlan commitStores createdAdmission exists survivorCount forwardIn copiesOn itemFits itemsFit bringBack settled rollChange rollStores holders numberAfter numberChange numberStores single holderOf takes takesAfter partnerOf partnerChanges partnerFrom partnerStores staged partnersStores largest largestNumber closingStores followed survivorStores recoverStores survivorsFormed tooFewWith tooFew recoverSized recoverChecked recoverOf planOf run Given
+unfolding every sum count first firstOr valuesOf geometryOf changeOf runs after view markTo marksTo backBy firstEntries formatStores formatMade framesIn framesAt used framesFit itemTest marksForm phasesOf pointsOf statesForm nodeSound nodesSound itemSound itemsSound sound lengthOf sizesOf soundOf faultOf planAdmitted planChecked planBy admissionOf frameFull frameAdmission changeTo commonMark isOpen openAdmission ownsAt ownerOf dirty dirtyItem liveChanges entriesBefore commitChange closeChange sharedAt sharedItem hasFrame hasRoom placeFits fits nodeAfter fitsAfter passedOver homeOf droppedItem currentLeft arrivalOf dropStores arrivalChanges homeStoresBy homeStores servesAt serverOf fetchFrom readStores readValue otherChanges otherStores ownKeep keptAfter ownChanges writeStores sourceStores movedTo evictStores placeAdmission startAdmission sharesAt sharerOf createdPartner createItem noPartner createPlan commitStores createdAdmission exists survivorCount forwardIn copiesOn itemFits itemsFit bringBack settled rollChange rollStores holders numberAfter numberChange numberStores single holderOf takes takesAfter partnerOf partnerChanges partnerFrom partnerStores staged partnersStores largest largestNumber closingStores followed survivorStores recoverStores survivorsFormed tooFewWith tooFew recoverAdmission recoverChecked recoverOf planOf run Given
 examples-given = (refl, (refl, (refl, (refl, (refl, (refl, (refl, (refl, (refl, (refl, (refl, (refl, (refl, (refl, (refl, (refl, (refl, (refl, (refl, (refl, (refl, (refl, (refl, (refl, (refl, (refl, (refl, tt)))))))))))))))))))))))))))

@@ -8,11 +8,16 @@ pub mod RollingCode
 pub mod Numbering
 pub mod NumberingCode
 pub mod Partners
+pub mod Followed
+pub mod PartnersCounts
+pub mod PartnersCode
 pub mod ClosingMarks
 pub mod ClosingMarksCode
 pub mod SidesCode
 pub mod Recover
 pub mod RecoverPlan
+pub mod RecoverStages
+pub mod RecoverCode
 pub mod Ready
 pub mod Recovered
 pub mod SameMarks

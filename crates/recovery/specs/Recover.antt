@@ -13,6 +13,9 @@ use Rattle.entries.specs.declared.check.Checked.{Checked}
 use Rattle.entries.specs.declared.check.Checked.the-variants.{Passed, Failed}
 use Rattle.entries.specs.Sound.{marksForm, nodesSound}
 use Rattle.entries.specs.Check.{sizesOf}
+use Rattle.homes.specs.declared.admission.Admission.{Admission}
+use Rattle.homes.specs.declared.admission.Admission.the-variants.{Admitted, Turned}
+use Rattle.homes.specs.Plans.{planAdmitted}
 use Rattle.recovery.specs.declared.lost.Lost.{Lost}
 use Rattle.recovery.specs.Survivors.{lostStores, survivors, survivorCount, lostOutside}
 use Rattle.recovery.specs.Sides.{itemsFit}
@@ -53,19 +56,21 @@ tooFew g w = tooFewWith g (survivorCount g w)
 
 -- ---- the plan
 
--- after 1, 3, 1; w is the view of the survivors
-unfoldable pub recoverSized : Geometry → View → View → Lost → ℕ → Plan
-recoverSized g v w lost scratch =
-    cond (lostOutside g lost) (refuse NoNode)
-    (cond (ltb scratch (scratchWords g)) (refuse ShortScratch)
-    (cond (not (survivorsFormed g w)) (refuse NotSound)
-    (cond (tooFew g w) (refuse TooFewNodes)
-    (cond (not (itemsFit g w)) (refuse NoRecoveryCopy)
-    (carry g 0 (recoverStores g lost v))))))
+-- 4; 16; 2; 14; 15, in this order; w is the view of the survivors
+unfoldable pub recoverAdmission : Geometry → View → Lost → ℕ → Admission
+recoverAdmission g w lost scratch =
+    cond (lostOutside g lost) (Turned NoNode)
+    (cond (ltb scratch (scratchWords g)) (Turned ShortScratch)
+    (cond (not (survivorsFormed g w)) (Turned NotSound)
+    (cond (tooFew g w) (Turned TooFewNodes)
+    (cond (not (itemsFit g w)) (Turned NoRecoveryCopy)
+    Admitted))))
 
+-- 1, 3, 1 before it
 unfoldable pub recoverChecked : List ℕ → Lost → ℕ → Checked → Plan
 recoverChecked t lost scratch (Failed r) = refuse r
-recoverChecked t lost scratch (Passed g) = recoverSized g (view g t) (survivors lost (view g t)) lost scratch
+recoverChecked t lost scratch (Passed g) =
+    planAdmitted (recoverAdmission g (survivors lost (view g t)) lost scratch) (carry g 0 (recoverStores g lost (view g t)))
 
 -- the table, the lost node or none, and the length of the scratch, whose words are not read
 unfoldable pub recoverOf : List ℕ → Lost → ℕ → Plan

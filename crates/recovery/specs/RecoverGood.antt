@@ -2,26 +2,25 @@
 use Prim.Native.Nat.{ℕ}
 use mathlib.Core.Path.{_≡_, sym, _∙_}
 use mathlib.Core.Logic.{_≢_}
-use mathlib.Core.Bool.{Bool, true, false, cond, not}
 use mathlib.Core.List.{List}
 use native.Mathlib.Omega.{arith}
-use lib.Dec.{ltb}
 use lib.ListN.{length}
 use Rattle.table.specs.declared.geometry.Geometry.{Geometry}
-use Rattle.table.specs.declared.answers.Refusal.{Refusal}
 use Rattle.table.specs.Stores.{Store, after}
 use Rattle.table.specs.View.{view}
-use Rattle.table.specs.Answers.{Plan, refuse, nothingLeft, carry}
+use Rattle.table.specs.Answers.{nothingLeft, carry}
 use Rattle.entries.specs.declared.check.Checked.{Checked}
 use Rattle.entries.specs.declared.check.Checked.the-variants.{Passed, Failed}
 use Rattle.entries.specs.Check.{sizesOf}
 use Rattle.entries.specs.CheckFacts.{accepted-facts, facts-sizes}
 use Rattle.homes.specs.Kept.{Kept}
 use Rattle.homes.specs.KeptOn.{kept-begins}
+use Rattle.homes.specs.declared.admission.Admission.{Admission}
+use Rattle.homes.specs.declared.admission.Admission.the-variants.{Admitted, Turned}
+use Rattle.homes.specs.Plans.{planAdmitted}
 use Rattle.recovery.specs.declared.lost.Lost.{Lost}
-use Rattle.recovery.specs.Survivors.{survivors, lostOutside}
-use Rattle.recovery.specs.Sides.{itemsFit}
-use Rattle.recovery.specs.Recover.{recoverStores, scratchWords, survivorsFormed, tooFew, recoverSized, recoverChecked, recoverOf}
+use Rattle.recovery.specs.Survivors.{survivors}
+use Rattle.recovery.specs.Recover.{recoverStores, recoverAdmission, recoverChecked, recoverOf}
 use Rattle.recovery.specs.RecoverPlan.{recover-carries}
 use Rattle.recovery.specs.Ready.{Ready}
 use Rattle.recovery.specs.RecoverTheorem.{recover-serves}
@@ -32,23 +31,18 @@ use Rattle.recovery.specs.Good.{Good, good-by}
 
 -- ---- it never answers 17
 
-something : (a : Bool) (r : Refusal) (p : Plan) → p ≢ nothingLeft → cond a (refuse r) p ≢ nothingLeft
-something true r p d e = let z : _≡_ {A = ℕ} 0 1 = cc in omega arith
-something false r p d e = d e
+something : (a : Admission) (g : Geometry) (ss : List Store) → planAdmitted a (carry g 0 ss) ≢ nothingLeft
+unfolding planAdmitted
+something (Turned r) g ss e = let z : _≡_ {A = ℕ} 0 1 = cc in omega arith
+something Admitted g ss e = let z : _≡_ {A = ℕ} 0 1 = cc in omega arith
 
 pub recover-something : (t : List ℕ) (lost : Lost) (scratch : ℕ) → recoverOf t lost scratch ≢ nothingLeft
-unfolding recoverOf recoverChecked recoverSized
+unfolding recoverOf recoverChecked
 recover-something t lost scratch e = go (sizesOf t) e
   where
     go : (c : Checked) → recoverChecked t lost scratch c ≢ nothingLeft
     go (Failed r) e = let z : _≡_ {A = ℕ} 0 1 = cc in omega arith
-    go (Passed g) e =
-        let w = survivors lost (view g t) in
-        something (lostOutside g lost) _ _
-        (something (ltb scratch (scratchWords g)) _ _
-        (something (not (survivorsFormed g w)) _ _
-        (something (tooFew g w) _ _
-        (something (not (itemsFit g w)) _ _ (λ (e : carry g 0 (recoverStores g lost (view g t)) ≡ nothingLeft). let z : _≡_ {A = ℕ} 0 1 = cc in omega arith))))) e
+    go (Passed g) e = something (recoverAdmission g (survivors lost (view g t)) lost scratch) g (recoverStores g lost (view g t)) e
 
 -- ---- nothing was cut
 

@@ -16,10 +16,13 @@ use Rattle.table.specs.Answers.{Plan, refuse, carry}
 use Rattle.entries.specs.declared.check.Checked.{Checked}
 use Rattle.entries.specs.declared.check.Checked.the-variants.{Passed, Failed}
 use Rattle.entries.specs.Check.{sizesOf}
+use Rattle.homes.specs.declared.admission.Admission.{Admission}
+use Rattle.homes.specs.declared.admission.Admission.the-variants.{Admitted, Turned}
+use Rattle.homes.specs.Plans.{planAdmitted}
 use Rattle.recovery.specs.declared.lost.Lost.{Lost}
 use Rattle.recovery.specs.Survivors.{survivors, lostOutside}
 use Rattle.recovery.specs.Sides.{itemsFit}
-use Rattle.recovery.specs.Recover.{recoverStores, scratchWords, survivorsFormed, tooFew, recoverSized, recoverChecked, recoverOf}
+use Rattle.recovery.specs.Recover.{recoverStores, scratchWords, survivorsFormed, tooFew, recoverAdmission, recoverChecked, recoverOf}
 
 -- none of the refusals, and the stores
 pub record Carries (t : List ℕ) (lost : Lost) (scratch : ℕ) (g : Geometry) (ss : List Store) : Type 0 where
@@ -38,34 +41,42 @@ not-false : (a : Bool) → not a ≡ false → a ≡ true
 not-false true h = refl
 not-false false h = absurd (no-both refl h)
 
--- a refusal that is the next one: it does not hold, and what comes after it is the plan
-next : (a : Bool) (r : Refusal) (p : Plan) {g : Geometry} {x : ℕ} {ss : List Store} → cond a (refuse r) p ≡ carry g x ss → (a ≡ false) × (p ≡ carry g x ss)
-next true r p e = absurd (refused-not e)
+-- a refusal that is the next one: it does not hold, and what comes after it is admitted
+next : (a : Bool) (r : Refusal) (p : Admission) → cond a (Turned r) p ≡ Admitted → (a ≡ false) × (p ≡ Admitted)
+next true r p e = let z : _≡_ {A = ℕ} 0 1 = cc in absurd (omega arith)
 next false r p e = (refl, e)
+
+admitted-plan :
+    (a : Admission) {p : Plan} {g : Geometry} {x : ℕ} {ss : List Store} → planAdmitted a p ≡ carry g x ss → (a ≡ Admitted) × (p ≡ carry g x ss)
+unfolding planAdmitted
+admitted-plan (Turned r) e = absurd (refused-not e)
+admitted-plan Admitted e = (refl, e)
 
 -- turned down
 pub record Refuses (p : Plan) : Type 0 where
   pub number : Refusal
   pub plan : p ≡ refuse number
 
-passes : (a : Bool) (r : Refusal) (p : Plan) → Refuses p → Refuses (cond a (refuse r) p)
-passes true r p h = record { number = r; plan = refl }
-passes false r p h = h
+passes : (a : Bool) (r : Refusal) (b : Admission) (p : Plan) → Refuses (planAdmitted b p) → Refuses (planAdmitted (cond a (Turned r) b) p)
+unfolding planAdmitted
+passes true r b p h = record { number = r; plan = refl }
+passes false r b p h = h
 
 module _ (t : List ℕ) (lost : Lost) (scratch : ℕ) where
   pub recover-carries : {g : Geometry} {x : ℕ} {ss : List Store} → recoverOf t lost scratch ≡ carry g x ss → Carries t lost scratch g ss
-  unfolding recoverOf recoverChecked recoverSized
+  unfolding recoverOf recoverChecked recoverAdmission
   recover-carries {g} {x} {ss} e = go (sizesOf t) refl e
     where
       go : (c : Checked) → c ≡ sizesOf t → recoverChecked t lost scratch c ≡ carry g x ss → Carries t lost scratch g ss
       go (Failed r) p e = absurd (refused-not e)
       go (Passed h) p e =
           let w = survivors lost (view h t) in
-          let (a, e₁) = next (lostOutside h lost) NoNode _ e in
+          let (q, e₀) = admitted-plan (recoverAdmission h w lost scratch) e in
+          let (a, e₁) = next (lostOutside h lost) NoNode _ q in
           let (b, e₂) = next (ltb scratch (scratchWords h)) ShortScratch _ e₁ in
           let (c, e₃) = next (not (survivorsFormed h w)) NotSound _ e₂ in
           let (d, e₄) = next (tooFew h w) TooFewNodes _ e₃ in
-          let (f, e₅) = next (not (itemsFit h w)) NoRecoveryCopy _ e₄ in
+          let (f, _) = next (not (itemsFit h w)) NoRecoveryCopy _ e₄ in
           let same : h ≡ g = cc in
           let list : recoverStores h lost (view h t) ≡ ss = cc in
           rw (← same) (record {
@@ -80,7 +91,7 @@ module _ (t : List ℕ) (lost : Lost) (scratch : ℕ) where
 
   -- with none of the refusals
   pub carries-recover : {g : Geometry} {ss : List Store} → Carries t lost scratch g ss → recoverOf t lost scratch ≡ carry g 0 (recoverStores g lost (view g t))
-  unfolding recoverOf recoverChecked recoverSized
+  unfolding recoverOf recoverChecked recoverAdmission planAdmitted
   carries-recover {g} c =
       ap (recoverChecked t lost scratch) (c .passed)
       ∙ rw (c .inside, enough, c .formed, c .enoughNodes, c .fit) refl
@@ -90,7 +101,7 @@ module _ (t : List ℕ) (lost : Lost) (scratch : ℕ) where
 
   -- 14's condition: it is refused, with 14 or with what comes before it
   pub few-refused : {g : Geometry} → sizesOf t ≡ Passed g → tooFew g (survivors lost (view g t)) ≡ true → Refuses (recoverOf t lost scratch)
-  unfolding recoverOf recoverChecked recoverSized
+  unfolding recoverOf recoverChecked recoverAdmission planAdmitted
   few-refused {g} p few =
-      rw (p, few) (passes (lostOutside g lost) NoNode _ (passes (ltb scratch (scratchWords g)) ShortScratch _
-      (passes (not (survivorsFormed g (survivors lost (view g t)))) NotSound _ (record { number = TooFewNodes; plan = refl }))))
+      rw (p, few) (passes (lostOutside g lost) NoNode _ _ (passes (ltb scratch (scratchWords g)) ShortScratch _ _
+      (passes (not (survivorsFormed g (survivors lost (view g t)))) NotSound _ _ (record { number = TooFewNodes; plan = refl }))))

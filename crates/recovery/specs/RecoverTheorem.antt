@@ -17,9 +17,10 @@ use Rattle.entries.specs.Check.{sizesOf}
 use Rattle.entries.specs.CheckFacts.{Shape, sizes-facts}
 use Rattle.homes.specs.SoundKept.{shape-after}
 use Rattle.homes.specs.Serves.{Serves, serves-by}
+use Rattle.homes.specs.Plans.{planAdmitted}
 use Rattle.recovery.specs.declared.lost.Lost.{Lost}
 use Rattle.recovery.specs.Survivors.{survivors, survivorCount, lostOutside}
-use Rattle.recovery.specs.Recover.{scratchWords, recoverStores, tooFewWith, tooFew, recoverSized, recoverChecked, recoverOf}
+use Rattle.recovery.specs.Recover.{scratchWords, recoverStores, tooFewWith, tooFew, recoverAdmission, recoverChecked, recoverOf}
 use Rattle.recovery.specs.Ready.{Ready, Going}
 use Rattle.recovery.specs.Recovered.{Recovered}
 use Rattle.recovery.specs.ReadyAccepts.{ready-formed, ready-fit}
@@ -43,7 +44,7 @@ module _ (t : List ℕ) (g : Geometry) (saved : ℕ → ℕ) (number : ℕ) (los
 
   -- never 2, never 15
   pub recover-accepts : (scratch : ℕ) → scratchWords g ≤ scratch → recoverOf t lost scratch ≡ carry g 0 (recoverStores g lost (view g t))
-  unfolding recoverOf recoverChecked recoverSized
+  unfolding recoverOf recoverChecked recoverAdmission planAdmitted
   recover-accepts scratch h =
       ap (recoverChecked t lost scratch) passed
       ∙ rw (inside, le-ltb scratch (scratchWords g) h, ready-formed g saved number w ready, room, ready-fit g saved number w ready) refl

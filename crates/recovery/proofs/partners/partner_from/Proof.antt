@@ -1,0 +1,55 @@
+-- `partner_from` meets its contract: no partner, or its stores and its frames. Assumes nothing.
+use Rattle.table.specs.View.{view}
+use Rattle.recovery.specs.Survivors.{survivors}
+use Rattle.recovery.specs.PartnersCode.{found-room, from-none, from-made}
+use native.Mathlib.Omega.{arith}
+use borrow.Author.Needs.{needs}
+use Rattle.recovery.proofs.partners.partner_from.Statement.{statement}
+use Rattle.recovery.proofs.partners.partner_from.Tie as tie
+
+returns : tie.Need-returns
+returns c =
+    let o = c .before .before .before .before .before .before in
+    let a = o .args in
+    from-none (a .g) (a .lost) (a .item) (a .node) (o .pre .0) (o .pre .1 .0) (c .before .partner-of .ensures .is) (c .if1 .taken)
+
+used-with-requires : tie.Need-used-with-requires
+used-with-requires c κs =
+    let p = c .before .before .before .before .before in
+    omega (arith, p .partner-of .ensures .few (c .before .before .before .before .if1 .left), c .word .ensures)
+
+slice-write-scratch : tie.Need-slice-write-scratch
+slice-write-scratch c =
+    let p = c .before .before .before .before .before .before in
+    let o = p .before .before .before .before .before in
+    let a = o .args in
+    found-room (a .g) (survivors (a .lost) (view (a .g) (a .table .now))) (a .scratch .now) (a .item) (a .node) (o .pre .1 .0) (p .partner-of .ensures .is) (c .before .before .before .before .before .if1 .left) (o .pre .0 .room)
+
+returns-2 : tie.Need-returns-2
+returns-2 c =
+    let u = c .before .before .before .before in
+    let s = u .before .before .before in
+    let p = s .before .before .before in
+    let o = p .before .before .before .before .before in
+    let a = o .args in
+    from-made (a .g) (a .lost) (a .item) (a .node) (o .pre .0) (o .pre .1 .0) (p .partner-of .ensures .is) (o .pre .1 .1) (s .before .before .if1 .left) (s .state-at .ensures) (u .before .word .ensures) (u .used-with .ensures) (c .before .before .store-partner .ensures)
+
+pub partner-from-spec : {M : Type 1} → statement M
+partner-from-spec =
+    tie.close
+    (tie.spec
+    (λ c κs. search needs)
+    (λ c. search needs)
+    (λ c. search needs)
+    returns
+    (λ c κs. search needs)
+    (λ c. search needs)
+    (λ c κs. search needs)
+    used-with-requires
+    (λ c. search needs)
+    (λ c. search needs)
+    slice-write-scratch
+    (λ c κs. search needs)
+    (λ c. search needs)
+    (λ c. search needs)
+    returns-2)

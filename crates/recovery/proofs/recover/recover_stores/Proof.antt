@@ -1,0 +1,24 @@
+-- `recover_stores` meets its contract: the lost mark, the stages, the scratch. Assumes nothing.
+use Rattle.recovery.specs.RecoverCode.{recovered}
+use borrow.Author.Needs.{needs}
+use Rattle.recovery.proofs.recover.recover_stores.Statement.{statement}
+use Rattle.recovery.proofs.recover.recover_stores.Tie as tie
+
+returns : tie.Need-returns
+returns c =
+    let r = c .before .before .before .before .before .before .before .before in
+    let l = r .before .before .before .before .before in
+    let o = l .before .before .before .before .before in
+    recovered _ _ (o .pre) (l .before .before .scratch-words .ensures) (l .store-lost .ensures) (r .restore .ensures) (c .before .before .clear .ensures)
+
+pub recover-stores-spec : {M : Type 1} → statement M
+recover-stores-spec =
+    tie.close
+    (tie.spec
+    (λ c κs. search needs)
+    (λ c κs. search needs)
+    (λ c κs. search needs)
+    (λ c κs. search needs)
+    (λ c. search needs)
+    (λ c. search needs)
+    returns)

@@ -1,0 +1,253 @@
+// The third stage of a recovery: a single copy gets its partner. The frames in use of each survivor stand in the first words of the scratch, one a
+// node, so that a partner is found in one turn over the nodes.
+ghost use mathlib.Core.Path.{_≡_};
+ghost use Prim.Native.Nat.{_≤_, _<_, _-_};
+ghost use lib.ListN.{length};
+ghost use Rattle.counting.specs.Counting.{Counted, count};
+ghost use Rattle.table.specs.Geometry.{wordsOf};
+ghost use Rattle.table.specs.Stores.{StoredIn};
+ghost use Rattle.table.specs.View.{view};
+ghost use Rattle.table.specs.Words.{currentOf};
+ghost use Rattle.table.specs.Changes.{checkpointOf};
+ghost use Rattle.entries.specs.Tally.{copy};
+ghost use Rattle.homes.specs.Home.{nodeAfter};
+ghost use Rattle.recovery.specs.Survivors.{survivors};
+ghost use Rattle.recovery.specs.Rolling.{sharedCK};
+ghost use Rattle.recovery.specs.Partners.{holderOf, partnerChanges, partnerFrom, partnerStores, partnersStores};
+ghost use Rattle.recovery.specs.PartnersCounts.{usedWith};
+ghost use Rattle.recovery.specs.PartnersCode.{takesBy, Found, UsedBy, Filled, Ready, Turned};
+use crate::lost::Lost;
+use crate::survivors;
+use entries::frames;
+use table::changes;
+use table::geometry::Geometry;
+use table::stores;
+use table::words;
+
+// The set that all frames of a node are.
+const SET: u8 = 0;
+
+// The frames in use of a survivor; of any other node nothing is read.
+fn used_by(table: &[u64], g: Geometry, lost: Lost, node: u8) -> u64
+    ensures { λ r. ⌜ UsedBy g (survivors lost (view g (now (table .entry)))) node r ⌝ }
+{
+    let mark = survivors::survivor_mark(table, g, lost, node);
+    if mark == 0 {
+        return 0;
+    }
+    frames::used_in(table, g, node, SET) as u64
+}
+
+// The frames in use of each survivor, in the scratch.
+fn fill_used(table: &[u64], g: Geometry, lost: Lost, scratch: &mut [u64])
+    requires { ⌜ g .nodes ≤ length (now scratch) ⌝ }
+    ensures { λ _. ⌜ Filled g (survivors lost (view g (now (table .entry)))) (g .nodes) (now (scratch .entry)) (now (scratch .exit)) ⌝ }
+{
+    let nodes = g.nodes;
+    let mut node: u8 = 0;
+    while node < nodes {
+        scratch[node as usize] = used_by(table, g, lost, node);
+        node += 1;
+    }
+}
+
+// Whether a node survives and has a copy of an item.
+fn copy_at(table: &[u64], g: Geometry, lost: Lost, item: u16, node: u8) -> bool
+    ensures { λ r. ⌜ r ≡ copy (survivors lost (view g (now (table .entry)))) item node ⌝ }
+{
+    let mark = survivors::survivor_mark(table, g, lost, node);
+    if mark == 0 {
+        return false;
+    }
+    let current = words::current_of(stores::state_at(table, g, node, item));
+    current != words::INVALID
+}
+
+// 1 for a survivor with a copy of an item, 0 for any other node.
+fn one_copy(table: &[u64], g: Geometry, lost: Lost, item: u16, node: u8) -> u64
+    ensures { λ r. ⌜ Counted (copy (survivors lost (view g (now (table .entry)))) item node) r ⌝ }
+{
+    if copy_at(table, g, lost, item, node) {
+        return 1;
+    }
+    0
+}
+
+// How many survivors have a copy of an item.
+fn copies_of(table: &[u64], g: Geometry, lost: Lost, item: u16) -> u64
+    ensures { λ r. ⌜ r ≡ count (copy (survivors lost (view g (now (table .entry)))) item) (g .nodes) ⌝ }
+{
+    let nodes = g.nodes;
+    let mut n: u64 = 0;
+    let mut node: u8 = 0;
+    while node < nodes {
+        n += one_copy(table, g, lost, item, node);
+        node += 1;
+    }
+    n
+}
+
+// The lowest survivor with a copy of an item, or the number of nodes if there is none.
+fn holder_of(table: &[u64], g: Geometry, lost: Lost, item: u16) -> u8
+    ensures { λ r. ⌜ r ≡ holderOf g (survivors lost (view g (now (table .entry)))) item ⌝ }
+{
+    let nodes = g.nodes;
+    let mut node: u8 = 0;
+    while node < nodes {
+        let found = copy_at(table, g, lost, item, node);
+        if found {
+            return node;
+        }
+        node += 1;
+    }
+    nodes
+}
+
+// Whether a node can take a partner: a survivor, its current place Invalid, and a frame free.
+fn can_take(table: &[u64], g: Geometry, lost: Lost, scratch: &[u64], item: u16, node: u8) -> bool
+    ensures { λ r. ⌜ r ≡ takesBy g (survivors lost (view g (now (table .entry)))) (now (scratch .entry)) item node ⌝ }
+{
+    let mark = survivors::survivor_mark(table, g, lost, node);
+    if mark == 0 {
+        return false;
+    }
+    let current = words::current_of(stores::state_at(table, g, node, item));
+    let used = stores::word(scratch, node as usize);
+    let frames = frames::set_frames(g) as u64;
+    (current == words::INVALID) & (used < frames)
+}
+
+// The node so many steps and one after a node, cyclically.
+fn node_after(g: Geometry, node: u8, passed: u8) -> u8
+    requires { ⌜ (node < g .nodes) × (passed < g .nodes) ⌝ }
+    ensures { λ r. ⌜ r ≡ nodeAfter g node passed ⌝ }
+{
+    let nodes = g.nodes as u16;
+    let to = node as u16 + 1 + passed as u16;
+    if to < nodes {
+        return to as u8;
+    }
+    (to - nodes) as u8
+}
+
+// The first node after a copy's node, cyclically, that can take its partner; the copy's node itself if none can.
+fn partner_of(table: &[u64], g: Geometry, lost: Lost, scratch: &[u64], item: u16, node: u8) -> u8
+    requires { ⌜ node < g .nodes ⌝ }
+    ensures { λ r. ⌜ Found g (survivors lost (view g (now (table .entry)))) (now (scratch .entry)) item node r ⌝ }
+{
+    let others = g.nodes - 1;
+    let mut passed: u8 = 0;
+    while passed < others {
+        let h = node_after(g, node, passed);
+        let found = can_take(table, g, lost, scratch, item, h);
+        if found {
+            return h;
+        }
+        passed += 1;
+    }
+    node
+}
+
+// The state of the partner of a copy with this state word: the Shared-CK of the absent number.
+fn partner_code(state: u64) -> u8
+    ensures { λ r. ⌜ r ≡ sharedCK (3 - checkpointOf (currentOf state)) ⌝ }
+{
+    let number = changes::checkpoint_of(words::current_of(state));
+    3 + (3 - number)
+}
+
+// The partner of a copy, with the absent number: value, then state.
+fn store_partner(table: &mut [u64], left: u64, g: Geometry, partner: u8, item: u16, node: u8) -> u64
+    ensures { λ r. ⌜ StoredIn g left partner item (partnerChanges (view g (now (table .entry)) .entry node item)) (now (table .entry)) (now (table .exit)) r ⌝ }
+{
+    let value = stores::value_at(table, g, node, item);
+    let state = stores::state_at(table, g, node, item);
+    let code = partner_code(state);
+    let left = stores::store_value(table, left, g, partner, item, value);
+    stores::store_state(table, left, g, partner, item, code, words::INVALID)
+}
+
+// What a node uses once its Invalid entry with this state word takes a partner: one frame more, unless a kept copy gives way to it.
+fn used_with(used: u64, state: u64) -> u64
+    requires { ⌜ used < 65536 ⌝ }
+    ensures { λ r. ⌜ r ≡ usedWith used state ⌝ }
+{
+    let kept = words::kept_of(state);
+    if kept == words::INVALID {
+        return used + 1;
+    }
+    used
+}
+
+// The partner of a node's copy of an item, if a node can take it.
+fn partner_from(
+    table: &mut [u64],
+    left: u64,
+    g: Geometry,
+    lost: Lost,
+    scratch: &mut [u64],
+    item: u16,
+    node: u8,
+) -> u64
+    requires { ⌜ Ready g lost left (now table) (now scratch) × ((node < g .nodes) × (item < g .items)) ⌝ }
+    ensures { λ r. ⌜ Turned g lost (λ w. partnerFrom g w item node) left (now (table .entry)) (now (table .exit)) (now (scratch .entry)) (now (scratch .exit)) r ⌝ }
+{
+    let partner = partner_of(table, g, lost, scratch, item, node);
+    if partner == node {
+        return left;
+    }
+    let state = stores::state_at(table, g, partner, item);
+    let used = used_with(stores::word(scratch, partner as usize), state);
+    scratch[partner as usize] = used;
+    store_partner(table, left, g, partner, item, node)
+}
+
+// An item's turn: a single copy gets its partner.
+fn partner_item(
+    table: &mut [u64],
+    left: u64,
+    g: Geometry,
+    lost: Lost,
+    scratch: &mut [u64],
+    item: u16,
+) -> u64
+    requires { ⌜ Ready g lost left (now table) (now scratch) × (item < g .items) ⌝ }
+    ensures { λ r. ⌜ Turned g lost (partnerStores g item) left (now (table .entry)) (now (table .exit)) (now (scratch .entry)) (now (scratch .exit)) r ⌝ }
+{
+    let copies = copies_of(table, g, lost, item);
+    if copies == 1 {
+        let node = holder_of(table, g, lost, item);
+        return partner_from(table, left, g, lost, scratch, item, node);
+    }
+    left
+}
+
+// The items, ascending.
+fn partner_items(table: &mut [u64], left: u64, g: Geometry, lost: Lost, scratch: &mut [u64]) -> u64
+    requires { ⌜ Ready g lost left (now table) (now scratch) ⌝ }
+    ensures { λ r. ⌜ Turned g lost (partnersStores g) left (now (table .entry)) (now (table .exit)) (now (scratch .entry)) (now (scratch .exit)) r ⌝ }
+{
+    let items = g.items;
+    let mut left = left;
+    let mut item: u16 = 0;
+    while item < items {
+        left = partner_item(table, left, g, lost, scratch, item);
+        item += 1;
+    }
+    left
+}
+
+// The partner stage; of the scratch it writes the first words, one a node.
+pub(crate) fn partners(
+    table: &mut [u64],
+    left: u64,
+    g: Geometry,
+    lost: Lost,
+    scratch: &mut [u64],
+) -> u64
+    requires { ⌜ (wordsOf g ≤ length (now table)) × (g .nodes ≤ length (now scratch)) ⌝ }
+    ensures { λ r. ⌜ Turned g lost (partnersStores g) left (now (table .entry)) (now (table .exit)) (now (scratch .entry)) (now (scratch .exit)) r ⌝ }
+{
+    fill_used(table, g, lost, scratch);
+    partner_items(table, left, g, lost, scratch)
+}
