@@ -47,6 +47,7 @@ pub mod MovingReady
 pub mod CommitReady
 pub mod CallsReady
 pub mod Call
+pub mod CallCode
 pub mod Memory
 pub mod Run
 pub mod Strike

@@ -1,6 +1,9 @@
-// A call as a value, with any arguments.
+// A call as a value, with any arguments, and the one function that carries any of them out.
+ghost use lib.ListN.{length};
+ghost use Rattle.recovery.specs.CallCode.{CarriedOut};
 use crate::lost::Lost;
 use homes::places::Place;
+use table::answers::Answer;
 
 pub enum Call {
     Format { nodes: u64, items: u64, frames: u64 },
@@ -14,4 +17,27 @@ pub enum Call {
     Commit,
     Abandon,
     Recover { lost: Lost },
+}
+
+// Carries a call out on a lent table, in at most `limit` stores. Only Recover uses the scratch.
+pub fn carry_out(table: &mut [u64], call: Call, scratch: &mut [u64], limit: u64) -> Answer
+    ensures { λ r. ⌜ CarriedOut call limit (now (table .entry)) (now (table .exit)) (now (scratch .entry)) (now (scratch .exit)) r ⌝ }
+{
+    match call {
+        Call::Format {
+            nodes,
+            items,
+            frames,
+        } => { entries::format::format(table, nodes, items, frames, limit) }
+        Call::Check => entries::check::check(table),
+        Call::Stretch { node } => entries::stretch::stretch_answer(table, node),
+        Call::Read { node, item } => calls::read::read(table, node, item, limit),
+        Call::Write { node, item, value } => calls::write::write(table, node, item, value, limit),
+        Call::Evict { node, item, place } => homes::evict::evict(table, node, item, place, limit),
+        Call::Open => checkpoints::open::open(table, limit),
+        Call::Create => checkpoints::create::create(table, limit),
+        Call::Commit => checkpoints::commit::commit(table, limit),
+        Call::Abandon => checkpoints::abandon::abandon(table, limit),
+        Call::Recover { lost } => crate::recover::recover(table, lost, scratch, limit),
+    }
 }

@@ -4,7 +4,7 @@ mod closing;
 pub mod lost;
 mod numbering;
 mod partners;
-mod recover;
+pub mod recover;
 mod rolling;
 mod scratch;
 pub mod sides;

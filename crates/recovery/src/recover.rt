@@ -93,7 +93,7 @@ fn recover_stores(table: &mut [u64], left: u64, g: Geometry, lost: Lost, scratch
 }
 
 // Brings the survivors back to the last recovery point, or on to the new one, in at most `limit` stores.
-pub(crate) fn recover(table: &mut [u64], lost: Lost, scratch: &mut [u64], limit: u64) -> Answer
+pub fn recover(table: &mut [u64], lost: Lost, scratch: &mut [u64], limit: u64) -> Answer
     ensures { λ r. ⌜ RecoverMeets (recoverOf (now (table .entry)) lost (length (now (scratch .entry)))) limit (now (table .entry)) (now (table .exit)) (now (scratch .entry)) (now (scratch .exit)) r ⌝ }
 {
     let sized = entries::check::sizes(table);
