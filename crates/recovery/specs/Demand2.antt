@@ -6,6 +6,7 @@ use mathlib.Core.List.{List}
 use mathlib.Core.Option.{Option, none, some}
 use lib.Dec.{eqb, ltb}
 use Rattle.table.specs.declared.geometry.Geometry.{Geometry}
+use Rattle.table.specs.declared.answers.Refusal.{Refusal}
 use Rattle.table.specs.Words.{numberOf, invalid}
 use Rattle.table.specs.Stores.{Store}
 use Rattle.table.specs.View.{Entry, View, view, live}
@@ -24,7 +25,7 @@ use Rattle.checkpoints.specs.Checkpoint.{openAdmission, ownerOf, dirtyItem}
 use Rattle.checkpoints.specs.Create.{sharerOf, createOf}
 use Rattle.recovery.specs.Exists.{exists}
 use Rattle.recovery.specs.Memory.{Memory, valueIn, savedIn}
-use Rattle.recovery.specs.Run.{geometryIn}
+use Rattle.recovery.specs.Run.{Step, geometryIn, isFormat, planAt}
 use Rattle.recovery.specs.History.{History, lastWritten}
 
 -- "the value last written .., else the recovery point's"
@@ -64,6 +65,10 @@ pub record Demand2 : Type 0 where
       → readOf t n b ≡ carry g x ss → x ≡ valueIn memory b
   -- and no call of a history is refused for the table: it passes checks 1, 3, 1 and 2
   pub never-refused : {t : List ℕ} {memory : Memory} {commits : ℕ} → History t memory commits → faultOf t ≡ Passed (geometryIn t)
+  -- so none but Format is refused with 1, 2 or 3
+  pub own-refusals :
+      {t : List ℕ} {memory : Memory} {commits : ℕ} → History t memory commits → (s : Step) → isFormat (s .call) ≡ false → (r : Refusal)
+      → planAt t s ≡ refuse r → 3 < refusalNumber r
   -- and its live marks carry the number of commits finished since the last formatting: the next point's is "1 plus" these
   pub point-number :
       {t : List ℕ} {memory : Memory} {commits : ℕ} → History t memory commits → (n : ℕ) → live (view (geometryIn t) t) n ≡ true

@@ -8,6 +8,7 @@ use Rattle.recovery.specs.Demand2.{Demand2}
 use Rattle.recovery.specs.HomeRefused.{evict-home, create-home}
 use Rattle.recovery.specs.HitReady.{live-inside}
 use Rattle.recovery.specs.HistoryTheorem.{history-good}
+use Rattle.recovery.specs.NeverForTable.{never-for-table}
 use Rattle.recovery.specs.LastWritten.{last-written}
 
 pub demand2 : Demand2
@@ -16,6 +17,7 @@ demand2 = record {
       read-answers t (geometryIn t) _ _ commits (history-good history .serves) n b accepted ∙ last-written history b;
   read-memory = λ {t} {memory} {commits} history n b accepted. read-answers t (geometryIn t) _ _ commits (history-good history .serves) n b accepted;
   never-refused = λ history. history-good history .serves .passed;
+  own-refusals = λ {t} {memory} {commits} history s. never-for-table t memory commits (history-good history) (s .scratch) (s .call);
   point-number = λ {t} history n l.
       history-good history .serves .number-is n (test-live (geometryIn t) (view (geometryIn t) t) n (live-inside (geometryIn t) t n l) l);
   evict-home = evict-home;

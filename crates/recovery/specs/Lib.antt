@@ -40,6 +40,7 @@ pub mod RecoverVia
 pub mod ReadyAccepts
 pub mod RecoverOff
 pub mod RecoverTheorem
+pub mod DeadName
 pub mod Surviving
 pub mod Standing
 pub mod KeptReady
@@ -67,6 +68,7 @@ pub mod Attempts
 pub mod StrikeGood
 pub mod HistoryTheorem
 pub mod LastWritten
+pub mod NeverForTable
 pub mod Lengths
 pub mod CallLengths
 pub mod RecoverLength

@@ -105,3 +105,11 @@ module _ (t : List ℕ) (lost : Lost) (scratch : ℕ) where
   few-refused {g} p few =
       rw (p, few) (passes (lostOutside g lost) NoNode _ _ (passes (ltb scratch (scratchWords g)) ShortScratch _ _
       (passes (not (survivorsFormed g (survivors lost (view g t)))) NotSound _ _ (record { number = TooFewNodes; plan = refl }))))
+
+  -- and with nothing before it, it is 14
+  pub few-fourteen :
+      {g : Geometry} → sizesOf t ≡ Passed g → lostOutside g lost ≡ false → scratchWords g ≤ scratch
+      → survivorsFormed g (survivors lost (view g t)) ≡ true → tooFew g (survivors lost (view g t)) ≡ true
+      → recoverOf t lost scratch ≡ refuse TooFewNodes
+  unfolding recoverOf recoverChecked recoverAdmission planAdmitted
+  few-fourteen {g} p inside enough formed few = rw (p, inside, le-ltb scratch (scratchWords g) enough, formed, few) refl

@@ -46,7 +46,7 @@ module _ {g : Geometry} {P : View → Type 0} where
 put-again : (f : ℕ → ℕ) (n : ℕ) → f n ≡ 0 → put₁ f n 0 ≡ f
 put-again f n z = fun-ext (λ k. put₁-case (λ y. y ≡ f k) f n 0 k (λ e. sym (ap f e ∙ z)) (λ _. refl))
 
-lost-again : (n : ℕ) (u : View) → u .mark n ≡ 0 → survivors (Node n) u ≡ u
+pub lost-again : (n : ℕ) (u : View) → u .mark n ≡ 0 → survivors (Node n) u ≡ u
 lost-again n u z = λ i. record { mark = put-again (u .mark) n z i; entry = u .entry }
 
 -- ---- the stages

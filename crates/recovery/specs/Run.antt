@@ -45,6 +45,20 @@ isPoint Commit = true
 isPoint Abandon = false
 isPoint (Recover lost) = false
 
+-- every call but Format looks at the table that it is given
+abbrev pub isFormat : Call → Bool
+isFormat (Format n m f) = true
+isFormat Check = false
+isFormat (Stretch n) = false
+isFormat (Read n b) = false
+isFormat (Write n b x) = false
+isFormat (Evict n b place) = false
+isFormat Open = false
+isFormat Create = false
+isFormat Commit = false
+isFormat Abandon = false
+isFormat (Recover lost) = false
+
 -- the commits since the last formatting, one finished call later
 abbrev pub commitsWith : Call → ℕ → ℕ
 commitsWith (Format n m f) k = 0

@@ -10,8 +10,9 @@ use lib.ListN.{length}
 use borrow.Author.Tests.{lt-leb}
 use Rattle.counting.specs.Tests.{by-cases, no-both}
 use Rattle.table.specs.declared.geometry.Geometry.{Geometry}
+use Rattle.table.specs.declared.answers.Refusal.the-variants.{TooFewNodes}
 use Rattle.table.specs.View.{View, view, live}
-use Rattle.table.specs.Answers.{carry}
+use Rattle.table.specs.Answers.{refuse, carry}
 use Rattle.entries.specs.declared.check.Checked.the-variants.{Passed}
 use Rattle.entries.specs.Check.{sizesOf}
 use Rattle.entries.specs.CheckFacts.{Shape, facts-sizes}
@@ -21,7 +22,8 @@ use Rattle.recovery.specs.declared.lost.Lost.the-variants.{Nobody, Node}
 use Rattle.recovery.specs.declared.call.Call.the-variants.{Commit, Recover}
 use Rattle.recovery.specs.Survivors.{survivors, lostOutside}
 use Rattle.recovery.specs.Recover.{recoverStores, tooFew}
-use Rattle.recovery.specs.RecoverPlan.{few-refused}
+use Rattle.recovery.specs.RecoverPlan.{few-refused, few-fourteen}
+use Rattle.recovery.specs.ReadyAccepts.{ready-formed}
 use Rattle.recovery.specs.Ready.{Ready}
 use Rattle.recovery.specs.Recovered.{Recovered}
 use Rattle.recovery.specs.RecoverTheorem.{going-few, recover-accepts, recover-leaves, recover-serves}
@@ -127,6 +129,12 @@ module _ (t : List ℕ) (memory : Memory) (commits : ℕ) (good : Good t memory 
   accepted-room a =
       by-cases (fourteen s)
       (λ few. let r = few-refused (attempted s) (s .lost) (s .scratch) passed (as-many ∙ few) in absurd (no-both a (ap accepted (r .plan)))) (λ q. q)
+
+  -- and where it holds the answer is 14: never 2, never 15
+  pub strike-few : fourteen s ≡ true → lastRecovery s ≡ refuse TooFewNodes
+  strike-few few =
+      few-fourteen (attempted s) (s .lost) (s .scratch) passed inside (s .enough)
+      (ready-formed G (savedIn back) number before (all-attempts .going .ready)) (as-many ∙ few)
 
   pub memory-size : length (back .saved) ≡ G .items
   memory-size = back-size

@@ -1,5 +1,4 @@
 // A call as a value, with any arguments, and the one function that carries any of them out.
-ghost use lib.ListN.{length};
 ghost use Rattle.recovery.specs.CallCode.{CarriedOut};
 use crate::lost::Lost;
 use homes::places::Place;
