@@ -41,6 +41,7 @@ pub mod ReadyAccepts
 pub mod RecoverOff
 pub mod RecoverTheorem
 pub mod DeadName
+pub mod AnyTable
 pub mod Surviving
 pub mod Standing
 pub mod KeptReady
