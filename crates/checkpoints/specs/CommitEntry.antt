@@ -6,7 +6,7 @@ use mathlib.Core.List.{[], _∷_}
 use native.Mathlib.Omega.{arith}
 use lib.Dec.{eqb, ltb, leb}
 use borrow.Author.Tests.{eqb-true, ltb-true, leb-true, not-false}
-use Rattle.counting.specs.Tests.{both, other-holds, no-both}
+use Rattle.counting.specs.Tests.{both, other-holds, neither}
 use Rattle.counting.specs.Counting.{every, every-at}
 use Rattle.table.specs.declared.changes.Event.the-variants.{Commit, RollForward}
 use Rattle.table.specs.Words.{stateWord, currentOf, keptOf, stateForm, invalid, current-state, kept-state}
@@ -74,11 +74,6 @@ commits-facts c h q =
       frame = leb-true _ _ (r₄ .0);
       stays = λ p. eqb-true _ _ (other-holds (isPrecommit c) (r₄ .1) p);
     }
-
--- neither side of an `||` holds
-neither : (a b : Bool) → (a || b) ≡ false → (a ≡ false) × (b ≡ false)
-neither true b h = absurd (no-both refl h)
-neither false b h = (refl, h)
 
 module _ (e : Entry) (form : stateForm (e .state) ≡ true) (plain : owns (current e) ≡ false) where
   facts : Commits (current e)

@@ -7,7 +7,7 @@ use native.Mathlib.Omega.{arith}
 use lib.Dec.{eqb, ltb}
 use lib.ListN.{length}
 use borrow.Author.Tests.{eqb-true, eq-eqb, ltb-true, not-false}
-use Rattle.counting.specs.Tests.{by-cases, other-holds, no-both, or-left, or-right}
+use Rattle.counting.specs.Tests.{by-cases, other-holds, no-both, or-left, or-right, neither}
 use Rattle.counting.specs.Counting.{every, every-at}
 use Rattle.table.specs.declared.geometry.Geometry.{Geometry}
 use Rattle.table.specs.declared.changes.Event.the-variants.{Commit}
@@ -53,10 +53,6 @@ code-stays c h p q = eqb-true _ _ (other-holds (isPrecommit c) (other-holds (own
 code-low : (c : ℕ) → c < 8 → changeOf c Commit < 16
 unfolding lowRule changeOf every
 code-low c h = ltb-true _ 16 (every-at 8 lowRule refl c h)
-
-neither : (a b : Bool) → (a || b) ≡ false → (a ≡ false) × (b ≡ false)
-neither true b h = absurd (no-both refl h)
-neither false b h = (refl, h)
 
 module _ (e : Entry) (form : stateForm (e .state) ≡ true) where
   committed-current : owns (current e) ≡ false → current (committed e) ≡ changeOf (current e) Commit

@@ -59,6 +59,9 @@ pub count-next : (p : ℕ → Bool) (n : ℕ) → count p (n + 1) ≡ count p n 
 unfolding count
 count-next p n = rw add-one
 
+pub count-turn : (p : ℕ → Bool) (n : ℕ) {a r : ℕ} → a ≡ count p n → Counted (p n) r → a + r ≡ count p (n + 1)
+count-turn p n h c = omega (arith, count-next p n, c .is)
+
 -- ---- below suc n: below n, or n itself
 
 pub below : (P : ℕ → Type 0) {n m : ℕ} → m < suc n → (m < n → P m) → P n → P m
@@ -259,4 +262,13 @@ count-change zero p q k h same = absurd (omega arith)
 count-change (suc n) p q k h same = elim (ℕ-discrete k n) [
   | yes e ↦ (let r = count-ext n q p (λ m l. same m (λ d. omega arith)) in omega (arith, ap (λ x. one (p x)) e, ap (λ x. one (q x)) e))
   | no e ↦ omega (arith, count-change n p q k (omega arith) same, ap one (same n (λ d. e (sym d))))
+]
+
+pub sum-change :
+    (n : ℕ) (f h : ℕ → ℕ) (k : ℕ) → k < n → ((m : ℕ) → (m ≡ k → ⊥) → h m ≡ f m) → sum h n + f k ≡ sum f n + h k
+unfolding sum
+sum-change zero f h k l same = absurd (omega arith)
+sum-change (suc n) f h k l same = elim (ℕ-discrete k n) [
+  | yes e ↦ (let r = sum-ext n h f (λ m l. same m (λ d. omega arith)) in omega (arith, ap f e, ap h e))
+  | no e ↦ omega (arith, sum-change n f h k (omega arith) same, same n (λ d. e (sym d)))
 ]

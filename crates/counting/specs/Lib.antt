@@ -3,3 +3,6 @@ pub mod Tests
 pub mod Counting
 pub mod First
 pub mod Values
+pub mod Exists
+pub mod Ranks
+pub mod Crowded

@@ -58,3 +58,8 @@ or-right false h = h
 pub other-holds : (a : Bool) {b : Bool} → (a || b) ≡ true → a ≡ false → b ≡ true
 other-holds true h e = absurd (no-both h e)
 other-holds false h e = h
+
+-- neither side of an `||` holds
+pub neither : (a b : Bool) → (a || b) ≡ false → (a ≡ false) × (b ≡ false)
+neither true b h = absurd (no-both refl h)
+neither false b h = (refl, h)

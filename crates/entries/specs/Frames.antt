@@ -1,7 +1,7 @@
 -- "Each place not Invalid uses a frame; no live node uses more than F." Frames are asked of a node and a set of items; a node's frames are one set.
-use Prim.Native.Nat.{ℕ, _+_, _<_}
+use Prim.Native.Nat.{ℕ, _+_, _<_, _≤_}
 use mathlib.Core.Path.{_≡_, ap₂}
-use mathlib.Core.Bool.{Bool, cond}
+use mathlib.Core.Bool.{Bool, true, false, cond}
 use native.Mathlib.Omega.{arith}
 use lib.Dec.{eqb, leb}
 use borrow.Author.Tests.{eq-eqb, ne-eqb}
@@ -46,6 +46,14 @@ framesFit g v n = every (λ s. leb (used g v n s) (setFrames g)) (setsOf g)
 
 pub set-there : (g : Geometry) (b : ℕ) → setOf g b < setsOf g
 set-there g b = omega arith
+
+-- a place uses one frame, or none
+pub frame-le : (c : ℕ) → frameOf c ≤ 1
+frame-le c = go (eqb c 0)
+  where
+    go : (q : Bool) → cond q 0 1 ≤ 1
+    go true = omega arith
+    go false = omega arith
 
 pub frames-state : (c k : ℕ) → c < 16 → k < 4 → framesIn (stateWord c k) ≡ frameOf c + frameOf k
 unfolding framesIn

@@ -2,7 +2,7 @@
 use Prim.Native.Nat.{ℕ, _+_, _≤_, _<_}
 use mathlib.Core.Path.{_≡_, refl, ap₂, _∙_}
 use mathlib.Core.Logic.{_⊎_, inl, inr, _≢_}
-use mathlib.Core.Bool.{Bool, true, false, cond}
+use mathlib.Core.Bool.{true, false}
 use mathlib.Core.List.{[], _∷_}
 use native.Mathlib.Omega.{arith}
 use native.Mathlib.Decide.{ℕ-discrete}
@@ -15,7 +15,7 @@ use Rattle.table.specs.Stores.{stateTo, valueTo, keptTo}
 use Rattle.table.specs.View.{Entry, current, kept, changed}
 use Rattle.table.specs.Pass.{Steps, last, next}
 use Rattle.table.specs.Copies.{Copy, noCopy, copyOf, backCopy, backBy, value-free}
-use Rattle.entries.specs.Frames.{frameOf, framesIn, frames-state}
+use Rattle.entries.specs.Frames.{frameOf, framesIn, frames-state, frame-le}
 
 -- what every single store keeps of an entry e₀ that has become e: its recovery copy is the one it had, or c
 pub record Arrives (e₀ : Entry) (d : ℕ) (c : Copy) (e : Entry) : Type 0 where
@@ -28,13 +28,6 @@ pub record Arrives (e₀ : Entry) (d : ℕ) (c : Copy) (e : Entry) : Type 0 wher
 -- Shared-CK stands beside no kept copy
 beside-form : (c k : ℕ) → c < 8 → k < 3 → (k ≢ 0 → c < 4) → stateForm (stateWord c k) ≡ true
 beside-form c k hc hk h = elim (ℕ-discrete k 0) [ yes z ↦ rw z (alone-form c hc) | no z ↦ low-form c k (h z) hk ]
-
-frame-le : (c : ℕ) → frameOf c ≤ 1
-frame-le c = go (eqb c 0)
-  where
-    go : (q : Bool) → cond q 0 1 ≤ 1
-    go true = omega arith
-    go false = omega arith
 
 pub low-number : (c : ℕ) → c < 4 → checkpointOf c ≡ 0
 low-number c h = rw (ne-eqb c 4 (λ e. omega arith), ne-eqb c 5 (λ e. omega arith))

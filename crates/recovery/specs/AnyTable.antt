@@ -18,7 +18,7 @@ use Rattle.entries.specs.Sound.{marksForm, statesForm, nodeSound, nodesSound}
 use Rattle.homes.specs.Kept.{Live, live-test, test-live}
 use Rattle.homes.specs.Serves.{Serves}
 use Rattle.recovery.specs.declared.lost.Lost.{Lost}
-use Rattle.recovery.specs.Exists.{exists, exists-at, not-exists}
+use Rattle.counting.specs.Exists.{exists, exists-at, not-exists}
 use Rattle.recovery.specs.Survivors.{survivors}
 use Rattle.recovery.specs.Sides.{forwardIn, hasCopy, copiesOn, itemFits, itemsFit}
 use Rattle.recovery.specs.ClosingMarks.{largestNumber}

@@ -31,7 +31,7 @@ use Rattle.checkpoints.specs.CommitSound.{not-owned}
 use Rattle.checkpoints.specs.CommitServes.{no-forward}
 use Rattle.homes.specs.Serves.{CurrentHave, BackHave, Serves, same-geometry, serves-number}
 use Rattle.recovery.specs.declared.lost.Lost.{Lost}
-use Rattle.recovery.specs.Exists.{exists-here, exists-at}
+use Rattle.counting.specs.Exists.{exists-here, exists-at}
 use Rattle.recovery.specs.Survivors.{survivors, carries}
 use Rattle.recovery.specs.Sides.{commits, forwardIn}
 use Rattle.recovery.specs.Ready.{Holds, Ready}

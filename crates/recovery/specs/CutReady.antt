@@ -24,7 +24,7 @@ use Rattle.checkpoints.specs.Abandon.{abandonOf}
 use Rattle.recovery.specs.declared.lost.Lost.{Lost}
 use Rattle.recovery.specs.declared.call.Call.{Call}
 use Rattle.recovery.specs.declared.call.Call.the-variants.{Format, Check, Stretch, Read, Write, Evict, Open, Create, Commit, Abandon, Recover}
-use Rattle.recovery.specs.Exists.{exists-not}
+use Rattle.counting.specs.Exists.{exists-not}
 use Rattle.recovery.specs.Survivors.{survivors, carries}
 use Rattle.recovery.specs.Surviving.{survivor-mark, survivor-live}
 use Rattle.recovery.specs.Ready.{Ready}

@@ -23,7 +23,7 @@ use Rattle.calls.specs.Read.{readOf}
 use Rattle.homes.specs.Evict.{evictOf}
 use Rattle.checkpoints.specs.Checkpoint.{openAdmission, ownerOf, dirtyItem}
 use Rattle.checkpoints.specs.Create.{sharerOf, createOf}
-use Rattle.recovery.specs.Exists.{exists}
+use Rattle.counting.specs.Exists.{exists}
 use Rattle.recovery.specs.Memory.{Memory, valueIn, savedIn}
 use Rattle.recovery.specs.Run.{Step, geometryIn, isFormat, planAt}
 use Rattle.recovery.specs.History.{History, lastWritten}

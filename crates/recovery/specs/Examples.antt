@@ -38,7 +38,7 @@ use Rattle.recovery.specs.declared.lost.Lost.{Lost}
 use Rattle.recovery.specs.declared.lost.Lost.the-variants.{Nobody, Node}
 use Rattle.recovery.specs.declared.call.Call.{Call}
 use Rattle.recovery.specs.declared.call.Call.the-variants.{Format, Read, Write, Evict, Open, Create, Commit, Recover}
-use Rattle.recovery.specs.Exists.{exists}
+use Rattle.counting.specs.Exists.{exists}
 use Rattle.recovery.specs.Survivors.{survivorCount}
 use Rattle.recovery.specs.Sides.{forwardIn, copiesOn, itemFits, itemsFit}
 use Rattle.recovery.specs.Rolling.{bringBack, settled, rollChange, rollStores}

@@ -25,7 +25,7 @@ use Rattle.homes.specs.Evict.{dropped, placeAdmission, evictStores, evictOf}
 use Rattle.checkpoints.specs.Checkpoint.{openAdmission, ownerOf, dirtyItem}
 use Rattle.checkpoints.specs.Create.{sharerOf, hasSharer, noPartner, createItem, createPlan, createOf}
 use Rattle.checkpoints.specs.CreateCode.{itemPlan, next-plan, next-owned}
-use Rattle.recovery.specs.Exists.{exists-not, not-exists}
+use Rattle.counting.specs.Exists.{exists-not, not-exists}
 use Rattle.recovery.specs.Demand2.{homeless, noOther, goesHome}
 
 -- ---- no home is found exactly if no other node fits

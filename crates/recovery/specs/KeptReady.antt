@@ -21,7 +21,7 @@ use Rattle.homes.specs.Kept.{Live, Kept, live-test, test-live}
 use Rattle.checkpoints.specs.KeptMarks.{KeptEntries, KeptMarks}
 use Rattle.homes.specs.Serves.{BackHave, Serves}
 use Rattle.recovery.specs.declared.lost.Lost.{Lost}
-use Rattle.recovery.specs.Exists.{exists-not}
+use Rattle.counting.specs.Exists.{exists-not}
 use Rattle.recovery.specs.Survivors.{survivors}
 use Rattle.recovery.specs.Sides.{commits, forwardIn}
 use Rattle.recovery.specs.Ready.{Holds, Ready}

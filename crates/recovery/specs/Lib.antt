@@ -1,5 +1,4 @@
 -- Recover as a plan, in the stages of document 01; what a table must have for it, and what every cut of it keeps.
-pub mod Exists
 pub mod Survivors
 pub mod SurvivorsCode
 pub mod Sides
@@ -25,11 +24,9 @@ pub mod PlainSides
 pub mod PlainReady
 pub mod RollEntry
 pub mod RollVia
-pub mod Ranks
 pub mod NumberEntry
 pub mod NumberItem
 pub mod NumberVia
-pub mod Room
 pub mod PartnerFound
 pub mod StagedVia
 pub mod PartnerVia

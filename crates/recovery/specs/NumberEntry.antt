@@ -15,7 +15,7 @@ use Rattle.table.specs.Changes.{checkpointOf}
 use Rattle.table.specs.Stores.{stateTo}
 use Rattle.table.specs.View.{Entry, current, kept, changed}
 use Rattle.table.specs.Pass.{Steps, last, next}
-use Rattle.entries.specs.Frames.{frameOf, framesIn, frames-state}
+use Rattle.entries.specs.Frames.{frameOf, framesIn, frames-state, frame-le}
 use Rattle.recovery.specs.Rolling.{sharedCK, settled}
 use Rattle.recovery.specs.Numbering.{numberAfter}
 use Rattle.recovery.specs.Ready.{PlainEntry}
@@ -114,9 +114,6 @@ module _ (x : ℕ) (e : Entry) (plain : PlainEntry x e) (numbered : checkpointOf
         nothing = kept-state nextCode 0 (omega arith) (omega arith);
         value = λ _. plain .value (λ z. numbered (rw z refl));
       }
-
-  frame-le : (c : ℕ) → frameOf c ≤ 1
-  frame-le c = by-cases (eqb c 0) (λ h. rw h (omega arith)) (λ h. rw h (omega arith))
 
   turned-frames : framesIn (turned .state) ≤ framesIn (e .state) + 0
   unfolding framesIn

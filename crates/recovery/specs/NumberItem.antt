@@ -16,7 +16,7 @@ use Rattle.entries.specs.Kinds.{has-live, has-code, has-at, has-copy, copy-live
 use Rattle.recovery.specs.Rolling.{sharedCK}
 use Rattle.recovery.specs.Numbering.{holders, numberAfter, numberAt}
 use Rattle.recovery.specs.Ready.{Numbered, pair, alone}
-use Rattle.recovery.specs.Ranks.{Ranked, count-above, ranked}
+use Rattle.counting.specs.Ranks.{Ranked, count-above, ranked}
 use Rattle.recovery.specs.NumberEntry.{Coded, code-number, number-code, After, stays, turns, goes, number-after, after-lowest, after-second}
 
 -- what the numbering leaves of a live node's entry

@@ -24,7 +24,7 @@ use Rattle.homes.specs.FramesKept.{used-no-more}
 use Rattle.recovery.specs.Rolling.{sharedCK, settled}
 use Rattle.recovery.specs.Numbering.{holders, numberAfter, numberAt, numberChange, numberStores}
 use Rattle.recovery.specs.Ready.{HasOne, Plain, Numbered}
-use Rattle.recovery.specs.Ranks.{ranked}
+use Rattle.counting.specs.Ranks.{ranked}
 use Rattle.recovery.specs.NumberEntry.{Coded, code-number, number-code, SafeNumber, number-begins, number-steps}
 use Rattle.recovery.specs.NumberItem.{NumberEnd, item-numbered}
 

@@ -9,7 +9,7 @@ use native.Mathlib.Decide.{decLt}
 use lib.Dec.{eqb, ltb}
 use borrow.Author.Tests.{eqb-true, eq-eqb, ltb-true, ltb-false}
 use Rattle.counting.specs.Tests.{both, no-both, by-cases, or-left, or-right, and-no-right}
-use Rattle.counting.specs.Counting.{one, sum, sum-ext, count, Only, only-counts}
+use Rattle.counting.specs.Counting.{one, sum, sum-ext, count, Only, only-counts, sum-swap, sum-count}
 use Rattle.counting.specs.First.{first, first-found, first-none, first-least, first-passes}
 use Rattle.table.specs.declared.geometry.Geometry.{Geometry}
 use Rattle.table.specs.Words.{invalid, sharedCK1, sharedCK2}
@@ -23,7 +23,7 @@ use Rattle.homes.specs.Kept.{Live, live-test, test-live}
 use Rattle.homes.specs.Home.{hasFrame}
 use Rattle.homes.specs.HomeCode.{after-below}
 use Rattle.homes.specs.HomeLaws.{after-other, after-reaches}
-use Rattle.recovery.specs.Room.{sum-swap, sum-count, sum-at, sum-fewer, crowded}
+use Rattle.counting.specs.Crowded.{sum-at, sum-fewer, crowded}
 use Rattle.recovery.specs.Survivors.{survivorCount}
 use Rattle.recovery.specs.Recover.{tooFewWith, tooFew}
 use Rattle.recovery.specs.Partners.{takes, takesAfter, partnerOf}

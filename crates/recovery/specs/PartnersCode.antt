@@ -1,6 +1,6 @@
 -- The partner stage as its code goes: the frames in use are read from the scratch. A law for each way of the code, over what it has read.
 use Prim.Native.Nat.{ℕ, zero, suc, _+_, _-_, _≤_, _<_}
-use mathlib.Core.Path.{_≡_, refl, sym, ap, ap₂, subst, _∙_}
+use mathlib.Core.Path.{_≡_, refl, sym, ap, subst, _∙_}
 use mathlib.Core.Bool.{Bool, true, false, not, cond, _&&_}
 use mathlib.Core.List.{List, [], _∷_, map}
 use native.Mathlib.Omega.{arith}
@@ -12,7 +12,7 @@ use lib.Seq.{drop-set-lt}
 use borrow.Author.Tests.{eq-eqb, ne-eqb, eqb-true, ltb-true, lt-ltb, le-ltb}
 use Rattle.counting.specs.Tests.{both, no-both, by-cases}
 use Rattle.counting.specs.Counting.{Counted, count, only}
-use Rattle.counting.specs.First.{first, firstOr, first-turns, first-found, first-ends, first-le, first-least, first-passes}
+use Rattle.counting.specs.First.{first, first-turns, first-found, first-ends, first-le, first-least, first-passes, first-ext}
 use Rattle.table.specs.declared.geometry.Geometry.{Geometry}
 use Rattle.table.specs.Geometry.{wordsOf}
 use Rattle.table.specs.Words.{currentOf, keptOf, invalid}
@@ -70,11 +70,6 @@ pub record Turned (g : Geometry) (lost : Lost) (f : View → List Store) (left :
   pub size : length s′ ≡ length s
 
 -- ---- the test and the search, by the table and by the scratch
-
-first-ext : (n : ℕ) (f h : ℕ → Bool) → ((i : ℕ) → i < n → f i ≡ h i) → first f n ≡ first h n
-unfolding first
-first-ext zero f h e = refl
-first-ext (suc n) f h e = ap₂ (λ k q. firstOr k n q) (first-ext n f h (λ i l. e i (omega arith))) (e n (omega arith))
 
 module _ (g : Geometry) (w : View) (s : List ℕ) (b : ℕ) where
   takes-same : AgreesTo g w s (g .nodes) → (m : ℕ) → m < g .nodes → takesBy g w s b m ≡ takes g w b m

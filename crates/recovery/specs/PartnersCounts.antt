@@ -1,6 +1,6 @@
 -- The frames in use of each survivor, as the partner stage holds them in the first words of the scratch: they agree with the table while anything is
 -- left of the limit.
-use Prim.Native.Nat.{ℕ, zero, suc, _+_, _-_, _≤_, _<_}
+use Prim.Native.Nat.{ℕ, _+_, _-_, _≤_, _<_}
 use mathlib.Core.Path.{_≡_, refl, sym, ap, _∙_}
 use mathlib.Core.Bool.{true, cond}
 use mathlib.Core.List.{List, [], _∷_, map}
@@ -11,7 +11,7 @@ use lib.ListN.{length, getD, set}
 use lib.Seq.{getD-set-same, getD-set-other}
 use borrow.Author.Tests.{ne-eqb}
 use Rattle.counting.specs.Tests.{by-cases}
-use Rattle.counting.specs.Counting.{sum, sum-ext, below}
+use Rattle.counting.specs.Counting.{sum-ext, below, sum-change}
 use Rattle.table.specs.declared.geometry.Geometry.{Geometry}
 use Rattle.table.specs.Words.{keptOf, stateWord, invalid}
 use Rattle.table.specs.Changes.{checkpointOf}
@@ -35,17 +35,6 @@ pub record Counts (g : Geometry) (lost : Lost) (left : ℕ) (t s : List ℕ) : T
 -- what a node uses once its entry with this state word, Invalid, takes a partner: one more, unless a kept copy gives way to it
 unfoldable pub usedWith : ℕ → ℕ → ℕ
 usedWith n state = cond (eqb (keptOf state) invalid) (n + 1) n
-
--- ---- one sum, changed at one place
-
-sum-change :
-    (n : ℕ) (f h : ℕ → ℕ) (k : ℕ) → k < n → ((m : ℕ) → (m ≡ k → ⊥) → h m ≡ f m) → sum h n + f k ≡ sum f n + h k
-unfolding sum
-sum-change zero f h k l same = absurd (omega arith)
-sum-change (suc n) f h k l same = elim (ℕ-discrete k n) [
-  | yes e ↦ (let r = sum-ext n h f (λ m l. same m (λ d. omega arith)) in omega (arith, ap f e, ap h e))
-  | no e ↦ omega (arith, sum-change n f h k (omega arith) same, same n (λ d. e (sym d)))
-]
 
 -- ---- the count fills up
 

@@ -5,8 +5,7 @@ use mathlib.Core.Bool.{Bool, true, false, not, cond}
 use mathlib.Core.List.{List}
 use native.Mathlib.Omega.{arith}
 use lib.Dec.{ltb}
-use borrow.Author.Tests.{ltb-false, le-ltb}
-use Rattle.counting.specs.Tests.{no-both}
+use borrow.Author.Tests.{ltb-false, le-ltb, not-false}
 use Rattle.table.specs.declared.geometry.Geometry.{Geometry}
 use Rattle.table.specs.declared.answers.Refusal.{Refusal}
 use Rattle.table.specs.declared.answers.Refusal.the-variants.{NotSound, NoNode, TooFewNodes, NoRecoveryCopy, ShortScratch}
@@ -36,10 +35,6 @@ pub record Carries (t : List ℕ) (lost : Lost) (scratch : ℕ) (g : Geometry) (
 
 pub refused-not : {r : Refusal} {g : Geometry} {x : ℕ} {ss : List Store} → refuse r ≡ carry g x ss → ⊥
 refused-not e = let z : _≡_ {A = ℕ} 0 1 = cc in omega arith
-
-not-false : (a : Bool) → not a ≡ false → a ≡ true
-not-false true h = refl
-not-false false h = absurd (no-both refl h)
 
 -- a refusal that is the next one: it does not hold, and what comes after it is admitted
 next : (a : Bool) (r : Refusal) (p : Admission) → cond a (Turned r) p ≡ Admitted → (a ≡ false) × (p ≡ Admitted)

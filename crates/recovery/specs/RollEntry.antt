@@ -18,7 +18,7 @@ use Rattle.table.specs.Stores.{stateTo, valueTo}
 use Rattle.table.specs.View.{Entry, current, kept, changed}
 use Rattle.table.specs.Pass.{Steps, last, next}
 use Rattle.table.specs.Copies.{backBy, value-free, back-moved}
-use Rattle.entries.specs.Frames.{frameOf, framesIn, frames-state}
+use Rattle.entries.specs.Frames.{frameOf, framesIn, frames-state, frame-le}
 use Rattle.recovery.specs.Sides.{sideEvent, copyOn}
 use Rattle.recovery.specs.Rolling.{sharedCK, bringBack, settled, rollChange}
 use Rattle.recovery.specs.Ready.{PlainEntry}
@@ -79,14 +79,6 @@ numberRule k = eqb (checkpointOf (sharedCK k)) k
 number-again : (k : ℕ) → k < 3 → checkpointOf (sharedCK k) ≡ k
 unfolding numberRule every
 number-again k h = eqb-true _ k (every-at 3 numberRule refl k h)
-
--- a place uses one frame, or none
-frame-one : (c : ℕ) → frameOf c ≤ 1
-frame-one c = go (eqb c 0)
-  where
-    go : (q : Bool) → cond q 0 1 ≤ 1
-    go true = omega arith
-    go false = omega arith
 
 -- the copy on a side, where a kept one does not count
 bare-copy : (forward : Bool) (e : Entry) → (forward ≡ false → kept e ≡ 0) → copyOn forward e ≡ backBy (numberOn forward (current e)) 0 (e .value) (e .keptValue)
@@ -198,7 +190,7 @@ module _ (e : Entry) (form : stateForm (e .state) ≡ true) where
     brought-safe =
         let l = low in
         let fr = frames-state (sharedCK (kept e)) 0 (omega arith) (omega arith) in
-        let f₁ = frame-one (sharedCK (kept e)) in
+        let f₁ = frame-le (sharedCK (kept e)) in
         let f₂ = one-frame in
         record {
           copy = ap₂ (λ i k. backBy i k (e .keptValue) (e .keptValue)) brought-number brought-kept

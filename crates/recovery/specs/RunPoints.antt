@@ -1,9 +1,9 @@
 -- A run of whole calls as a history; and a run up to its last finished commit or formatting, where the values are those saved.
 use Prim.Native.Nat.{ℕ}
 use mathlib.Core.Path.{_≡_, refl, sym, _∙_}
-use mathlib.Core.Bool.{Bool, true, false, not, _&&_, _||_}
+use mathlib.Core.Bool.{Bool, true, false, not, _&&_}
 use mathlib.Core.List.{List, [], _∷_, _++_}
-use Rattle.counting.specs.Tests.{by-cases, no-both, either}
+use Rattle.counting.specs.Tests.{by-cases, no-both, either, neither}
 use Rattle.table.specs.View.{view}
 use Rattle.table.specs.Answers.{Plan, refuse, nothingLeft, carry}
 use Rattle.entries.specs.declared.check.Checked.the-variants.{Passed}
@@ -92,11 +92,6 @@ module _ (t : List ℕ) (memory : Memory) (commits : ℕ) (good : Good t memory 
       go Commit e = cut-shape t memory commits good Commit (s .scratch) _ refl
       go Abandon e = cut-shape t memory commits good Abandon (s .scratch) _ refl
       go (Recover lost) e = recovers lost (recoverOf t lost (s .scratch)) refl
-
--- neither side of an `||` holds
-neither : (a b : Bool) → (a || b) ≡ false → (a ≡ false) × (b ≡ false)
-neither true b h = absurd (no-both refl h)
-neither false b h = (refl, h)
 
 -- ---- no point in the list
 

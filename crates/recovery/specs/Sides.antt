@@ -12,7 +12,7 @@ use Rattle.table.specs.Words.{phaseOf}
 use Rattle.table.specs.View.{Entry, View, live}
 use Rattle.table.specs.Copies.{Copy, backCopy, copyNumber, copyValue}
 use Rattle.checkpoints.specs.Forward.{forwardCopy}
-use Rattle.recovery.specs.Exists.{exists}
+use Rattle.counting.specs.Exists.{exists}
 
 -- node n has phase 2
 abbrev pub commits : View → ℕ → Bool

@@ -11,7 +11,7 @@ use Rattle.table.specs.Stores.{Store, markStore}
 use Rattle.table.specs.View.{View, live, updates}
 use Rattle.recovery.specs.declared.lost.Lost.{Lost}
 use Rattle.recovery.specs.declared.lost.Lost.the-variants.{Nobody, Node}
-use Rattle.recovery.specs.Exists.{exists}
+use Rattle.counting.specs.Exists.{exists}
 
 -- "the lost mark to 0, stored even if it is 0 already"
 abbrev pub lostStores : Lost → List Store

@@ -6,7 +6,7 @@ use native.Mathlib.Omega.{arith}
 use lib.Dec.{ltb, leb}
 use borrow.Author.Tests.{eq-eqb, ne-eqb, lt-ltb, le-ltb, ltb-true}
 use Rattle.counting.specs.Tests.{bool-iff}
-use Rattle.counting.specs.Counting.{Counted, every, count, count-next}
+use Rattle.counting.specs.Counting.{Counted, every, count}
 use Rattle.table.specs.declared.geometry.Geometry.{Geometry}
 use Rattle.table.specs.Words.{markForm}
 use Rattle.table.specs.View.{View, live}
@@ -46,9 +46,6 @@ module _ (w : View) (n : ℕ) {mark : ℕ} (h : mark ≡ w .mark n) where
 
   pub one-live : (mark ≡ 0 → ⊥) → Counted (live w n) 1
   one-live e = record { is = rw (← h, ne-eqb mark 0 e) refl; small = omega arith }
-
-pub count-turn : (p : ℕ → Bool) (n : ℕ) {a r : ℕ} → a ≡ count p n → Counted (p n) r → a + r ≡ count p (n + 1)
-count-turn p n h c = omega (arith, count-next p n, c .is)
 
 pub count-end : (g : Geometry) (w : View) (n : ℕ) {a : ℕ} → a ≡ count (live w) n → n ≤ g .nodes → g .nodes ≤ n → a ≡ survivorCount g w
 unfolding survivorCount

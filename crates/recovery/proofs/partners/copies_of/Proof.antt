@@ -5,7 +5,7 @@ use Rattle.counting.specs.Counting.{count, count-none}
 use Rattle.table.specs.View.{view}
 use Rattle.entries.specs.Tally.{copy}
 use Rattle.recovery.specs.Survivors.{survivors}
-use Rattle.recovery.specs.SurvivorsCode.{count-turn}
+use Rattle.counting.specs.Counting.{count-turn}
 use Rattle.recovery.specs.PartnersCode.{copies-end}
 use borrow.Author.Needs.{needs}
 use Rattle.recovery.proofs.partners.copies_of.Statement.{statement}

@@ -3,7 +3,7 @@ use Prim.Native.Nat.{_≤_, _-_}
 use mathlib.Core.Path.{_≡_}
 use Rattle.table.specs.View.{view}
 use Rattle.recovery.specs.Survivors.{survivors}
-use Rattle.recovery.specs.Exists.{exists, exists-none, exists-next, exists-ends}
+use Rattle.counting.specs.Exists.{exists, exists-none, exists-next, exists-ends}
 use Rattle.recovery.specs.Sides.{commits, forwardIn}
 use borrow.Author.Needs.{needs}
 use Rattle.recovery.proofs.sides.forward_in.Statement.{statement}

@@ -4,7 +4,8 @@ use mathlib.Core.Path.{_≡_}
 use Rattle.counting.specs.Counting.{count, count-none}
 use Rattle.table.specs.View.{view, live}
 use Rattle.recovery.specs.Survivors.{survivors}
-use Rattle.recovery.specs.SurvivorsCode.{count-turn, count-end}
+use Rattle.counting.specs.Counting.{count-turn}
+use Rattle.recovery.specs.SurvivorsCode.{count-end}
 use borrow.Author.Needs.{needs}
 use Rattle.recovery.proofs.survivors.survivor_count.Statement.{statement}
 use Rattle.recovery.proofs.survivors.survivor_count.Tie as tie

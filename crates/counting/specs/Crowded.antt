@@ -1,35 +1,14 @@
 -- Room by counting: where copies are fewer than the frames of all nodes but one, another node has a frame free.
 use Prim.Native.Nat.{ℕ, zero, suc, _+_, _-_, _*_, _≤_, _<_}
-use mathlib.Core.Path.{_≡_, refl, sym}
+use mathlib.Core.Path.{_≡_, sym}
 use mathlib.Core.Logic.{_≢_}
 use mathlib.Core.Bool.{Bool, true}
 use native.Mathlib.Omega.{arith}
 use native.Mathlib.Decide.{ℕ-discrete}
 use Rattle.counting.specs.Tests.{by-cases}
 use Rattle.counting.specs.Counting.{one, sum, count, count-some}
 
 -- ---- sums
-
-sum-plus : (f h : ℕ → ℕ) (n : ℕ) → sum (λ i. f i + h i) n ≡ sum f n + sum h n
-unfolding sum
-sum-plus f h zero = refl
-sum-plus f h (suc n) = omega (arith, sum-plus f h n)
-
-sum-nothing : (n : ℕ) → sum (λ i. 0) n ≡ 0
-unfolding sum
-sum-nothing zero = refl
-sum-nothing (suc n) = omega (arith, sum-nothing n)
-
--- by node, then item, or by item, then node
-pub sum-swap : (f : ℕ → ℕ → ℕ) (n m : ℕ) → sum (λ i. sum (f i) m) n ≡ sum (λ j. sum (λ i. f i j) n) m
-unfolding sum
-sum-swap f zero m = sym (sum-nothing m)
-sum-swap f (suc n) m = omega (arith, sum-swap f n m, sum-plus (λ j. sum (λ i. f i j) n) (f n) m)
-
-pub sum-count : (p : ℕ → Bool) (n : ℕ) → sum (λ i. one (p i)) n ≡ count p n
-unfolding sum count
-sum-count p zero = refl
-sum-count p (suc n) = omega (arith, sum-count p n)
 
 -- one of many
 pub sum-at : (n : ℕ) (f : ℕ → ℕ) (j : ℕ) → j < n → f j ≤ sum f n
