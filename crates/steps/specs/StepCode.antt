@@ -7,10 +7,12 @@ use borrow.Author.Tests.{eq-eqb, ne-eqb}
 use Rattle.table.specs.Words.{sizeForm, nodesOf, itemsOf, framesOf}
 use Rattle.homes.specs.declared.places.Place.{Place}
 use Rattle.homes.specs.declared.places.Place.the-variants.{Current, Kept}
-use Rattle.steps.specs.declared.decode.Lost.{Lost}
-use Rattle.steps.specs.declared.decode.Lost.the-variants.{Nobody, Node}
+use Rattle.recovery.specs.declared.lost.Lost.{Lost}
+use Rattle.recovery.specs.declared.lost.Lost.the-variants.{Nobody, Node}
+use Rattle.recovery.specs.declared.call.Call.{Call}
+use Rattle.recovery.specs.declared.call.Call.the-variants.{Format, Read, Write, Evict, Recover}
 use Rattle.steps.specs.declared.decode.Step.{Step}
-use Rattle.steps.specs.declared.decode.Step.the-variants.{Format, Read, Write, Evict, Recover, Malformed}
+use Rattle.steps.specs.declared.decode.Step.the-variants.{Asked, Malformed}
 use Rattle.steps.specs.Steps.{operationOf, nodeOf, itemOf, placeOf, restOf, choiceOf, lostOf, formatStep, readStep, writeStep, evictStep, bareStep, recoverStep, stepBy, stepOf}
 
 -- the place and the lost node
@@ -35,7 +37,7 @@ module _ (f : ℕ) {p : ℕ} (hp : p ≡ placeOf f) where
 module _ (f s : ℕ) where
   pub format-kept :
       {t : Bool} {n m k : ℕ} → t ≡ sizeForm f
-      → (t && eqb s 0) ≡ true → n ≡ nodesOf f → m ≡ itemsOf f → k ≡ framesOf f → Format n m k ≡ formatStep f s
+      → (t && eqb s 0) ≡ true → n ≡ nodesOf f → m ≡ itemsOf f → k ≡ framesOf f → Asked (Format n m k) ≡ formatStep f s
   unfolding formatStep
   format-kept ht h hn hm hk = rw (← ht, h, hn, hm, hk) refl
 
@@ -45,7 +47,7 @@ module _ (f s : ℕ) where
 
   pub read-kept :
       {p e n b : ℕ} → p ≡ placeOf f → e ≡ restOf f
-      → (eqb p 0 && (eqb e 0 && eqb s 0)) ≡ true → n ≡ nodeOf f → b ≡ itemOf f → Read n b ≡ readStep f s
+      → (eqb p 0 && (eqb e 0 && eqb s 0)) ≡ true → n ≡ nodeOf f → b ≡ itemOf f → Asked (Read n b) ≡ readStep f s
   unfolding readStep
   read-kept hp he h hn hb = rw (← hp, ← he, h, hn, hb) refl
 
@@ -57,7 +59,7 @@ module _ (f s : ℕ) where
 
   pub write-kept :
       {p e n b : ℕ} → p ≡ placeOf f → e ≡ restOf f
-      → (eqb p 0 && eqb e 0) ≡ true → n ≡ nodeOf f → b ≡ itemOf f → Write n b s ≡ writeStep f s
+      → (eqb p 0 && eqb e 0) ≡ true → n ≡ nodeOf f → b ≡ itemOf f → Asked (Write n b s) ≡ writeStep f s
   unfolding writeStep
   write-kept hp he h hn hb = rw (← hp, ← he, h, hn, hb) refl
 
@@ -69,7 +71,7 @@ module _ (f s : ℕ) where
 
   pub evict-kept :
       {e n b : ℕ} {c : Place} → e ≡ restOf f
-      → (eqb e 0 && eqb s 0) ≡ true → n ≡ nodeOf f → b ≡ itemOf f → c ≡ choiceOf f → Evict n b c ≡ evictStep f s
+      → (eqb e 0 && eqb s 0) ≡ true → n ≡ nodeOf f → b ≡ itemOf f → c ≡ choiceOf f → Asked (Evict n b c) ≡ evictStep f s
   unfolding evictStep
   evict-kept he h hn hb hc = rw (← he, h, hn, hb, hc) refl
 
@@ -78,20 +80,20 @@ module _ (f s : ℕ) where
   evict-broken he h = rw (← he, h) refl
 
   pub bare-kept :
-      {n b p e : ℕ} (x : Step) → n ≡ nodeOf f → b ≡ itemOf f → p ≡ placeOf f → e ≡ restOf f
-      → (eqb n 0 && (eqb b 0 && (eqb p 0 && (eqb e 0 && eqb s 0)))) ≡ true → x ≡ bareStep x f s
+      {n b p e : ℕ} (x : Call) → n ≡ nodeOf f → b ≡ itemOf f → p ≡ placeOf f → e ≡ restOf f
+      → (eqb n 0 && (eqb b 0 && (eqb p 0 && (eqb e 0 && eqb s 0)))) ≡ true → Asked x ≡ bareStep x f s
   unfolding bareStep
   bare-kept x hn hb hp he h = rw (← hn, ← hb, ← hp, ← he, h) refl
 
   pub bare-broken :
-      {n b p e : ℕ} (x : Step) → n ≡ nodeOf f → b ≡ itemOf f → p ≡ placeOf f → e ≡ restOf f
+      {n b p e : ℕ} (x : Call) → n ≡ nodeOf f → b ≡ itemOf f → p ≡ placeOf f → e ≡ restOf f
       → (eqb n 0 && (eqb b 0 && (eqb p 0 && (eqb e 0 && eqb s 0)))) ≡ false → Malformed ≡ bareStep x f s
   unfolding bareStep
   bare-broken x hn hb hp he h = rw (← hn, ← hb, ← hp, ← he, h) refl
 
   pub recover-kept :
       {b e p n : ℕ} {l : Lost} → b ≡ itemOf f → e ≡ restOf f → p ≡ placeOf f → n ≡ nodeOf f
-      → (eqb b 0 && (eqb e 0 && (eqb s 0 && (eqb p 0 || eqb n 0)))) ≡ true → l ≡ lostOf f → Recover l ≡ recoverStep f s
+      → (eqb b 0 && (eqb e 0 && (eqb s 0 && (eqb p 0 || eqb n 0)))) ≡ true → l ≡ lostOf f → Asked (Recover l) ≡ recoverStep f s
   unfolding recoverStep
   recover-kept hb he hp hn h hl = rw (← hb, ← he, ← hp, ← hn, h, hl) refl
 

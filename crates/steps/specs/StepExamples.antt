@@ -1,11 +1,12 @@
 -- Document 01's records and malformed ones, computed by the definitions.
 use Prim.Native.Nat.{ℕ, _+_, _-_, _*_, _^_}
 use mathlib.Core.Path.{_≡_, refl}
-use mathlib.Core.List.{[], _∷_, _++_}
+use mathlib.Core.List.{[], _∷_, _++_, map}
 use lib.ListN.{replicate}
 use Rattle.homes.specs.declared.places.Place.the-variants.{Current, Kept}
-use Rattle.steps.specs.declared.decode.Lost.the-variants.{Nobody, Node}
-use Rattle.steps.specs.declared.decode.Step.the-variants.{Format, Read, Write, Evict, Open, Create, Commit, Abandon, Recover, Malformed}
+use Rattle.recovery.specs.declared.lost.Lost.the-variants.{Nobody, Node}
+use Rattle.recovery.specs.declared.call.Call.the-variants.{Format, Read, Write, Evict, Open, Create, Commit, Abandon, Recover}
+use Rattle.steps.specs.declared.decode.Step.the-variants.{Asked, Malformed}
 use Rattle.steps.specs.Steps.{choiceOf, lostOf, formatStep, readStep, writeStep, evictStep, bareStep, recoverStep, stepBy, stepOf}
 use Rattle.steps.specs.Records.{recordOf}
 
@@ -31,7 +32,8 @@ pub listing :
     ∷ stepOf (word 1 1 0 0) 0
     ∷ stepOf (word 1 2 0 0) 0
     ∷ [])
-    ≡ (Format 3 1 2
+    ≡ map Asked
+    (Format 3 1 2
     ∷ Write 2 0 7
     ∷ Read 0 0
     ∷ Open
@@ -57,7 +59,8 @@ pub others :
     ∷ stepOf (sizes 31 511 1023) 0
     ∷ stepOf 0 0
     ∷ [])
-    ≡ (Read 15 255
+    ≡ map Asked
+    (Read 15 255
     ∷ Write 15 255 (2 ^ 64 - 1)
     ∷ Evict 15 255 Current
     ∷ Evict 15 255 Kept
@@ -100,7 +103,7 @@ unfolding choiceOf lostOf formatStep readStep writeStep evictStep bareStep recov
 malformed = refl
 
 -- "write node 2 item 0 value 7" as bytes, with a byte of the next record, and cut off
-pub bytes-of-a-write : recordOf (34 ∷ replicate 14 0 ++ (7 ∷ 255 ∷ [])) ≡ Write 2 0 7
+pub bytes-of-a-write : recordOf (34 ∷ replicate 14 0 ++ (7 ∷ 255 ∷ [])) ≡ Asked (Write 2 0 7)
 unfolding choiceOf lostOf formatStep readStep writeStep evictStep bareStep recoverStep stepBy recordOf
 bytes-of-a-write = refl
 

@@ -5,10 +5,12 @@ use lib.Dec.{eqb}
 use Rattle.table.specs.Words.{sizeForm, nodesOf, itemsOf, framesOf}
 use Rattle.homes.specs.declared.places.Place.{Place}
 use Rattle.homes.specs.declared.places.Place.the-variants.{Current, Kept}
-use Rattle.steps.specs.declared.decode.Lost.{Lost}
-use Rattle.steps.specs.declared.decode.Lost.the-variants.{Nobody, Node}
+use Rattle.recovery.specs.declared.lost.Lost.{Lost}
+use Rattle.recovery.specs.declared.lost.Lost.the-variants.{Nobody, Node}
+use Rattle.recovery.specs.declared.call.Call.{Call}
+use Rattle.recovery.specs.declared.call.Call.the-variants.{Format, Read, Write, Evict, Open, Create, Commit, Abandon, Recover}
 use Rattle.steps.specs.declared.decode.Step.{Step}
-use Rattle.steps.specs.declared.decode.Step.the-variants.{Format, Read, Write, Evict, Open, Create, Commit, Abandon, Recover, Malformed}
+use Rattle.steps.specs.declared.decode.Step.the-variants.{Asked, Malformed}
 
 -- "First word: operation 4 bits, node 4, item 8, place 1"; "Fields are packed most significant bit first"
 abbrev pub operationOf : ℕ → ℕ
@@ -39,30 +41,30 @@ lostOf first = cond (eqb (placeOf first) 0) (Node (nodeOf first)) Nobody
 -- "0 format (its first word has the layout of the table's word 0, its second is zero)"
 unfoldable pub formatStep : ℕ → ℕ → Step
 formatStep first second =
-    cond (sizeForm first && eqb second 0) (Format (nodesOf first) (itemsOf first) (framesOf first)) Malformed
+    cond (sizeForm first && eqb second 0) (Asked (Format (nodesOf first) (itemsOf first) (framesOf first))) Malformed
 
 -- "1 read": a node and an item
 unfoldable pub readStep : ℕ → ℕ → Step
 readStep first second =
-    cond (eqb (placeOf first) 0 && (eqb (restOf first) 0 && eqb second 0)) (Read (nodeOf first) (itemOf first)) Malformed
+    cond (eqb (placeOf first) 0 && (eqb (restOf first) 0 && eqb second 0)) (Asked (Read (nodeOf first) (itemOf first))) Malformed
 
 -- "2 write": a node, an item and a value
 unfoldable pub writeStep : ℕ → ℕ → Step
 writeStep first second =
-    cond (eqb (placeOf first) 0 && eqb (restOf first) 0) (Write (nodeOf first) (itemOf first) second) Malformed
+    cond (eqb (placeOf first) 0 && eqb (restOf first) 0) (Asked (Write (nodeOf first) (itemOf first) second)) Malformed
 
 -- "3 evict": a node, an item and a place
 unfoldable pub evictStep : ℕ → ℕ → Step
 evictStep first second =
-    cond (eqb (restOf first) 0 && eqb second 0) (Evict (nodeOf first) (itemOf first) (choiceOf first)) Malformed
+    cond (eqb (restOf first) 0 && eqb second 0) (Asked (Evict (nodeOf first) (itemOf first) (choiceOf first))) Malformed
 
 -- "4 open, 5 create, 6 commit, 7 abandon": no field
-unfoldable pub bareStep : Step → ℕ → ℕ → Step
-bareStep step first second =
+unfoldable pub bareStep : Call → ℕ → ℕ → Step
+bareStep call first second =
     cond
     (eqb (nodeOf first) 0
     && (eqb (itemOf first) 0 && (eqb (placeOf first) 0 && (eqb (restOf first) 0 && eqb second 0))))
-    step
+    (Asked call)
     Malformed
 
 -- "8 recover": a node and a place; "a Recover of none does not use the node"
@@ -71,7 +73,7 @@ recoverStep first second =
     cond
     (eqb (itemOf first) 0
     && (eqb (restOf first) 0 && (eqb second 0 && (eqb (placeOf first) 0 || eqb (nodeOf first) 0))))
-    (Recover (lostOf first))
+    (Asked (Recover (lostOf first)))
     Malformed
 
 -- the step of each operation; "any other operation .. gives answer 18"

@@ -2,24 +2,12 @@
 ghost use mathlib.Core.Path.{_≡_};
 ghost use Rattle.steps.specs.Steps.{nodeOf, itemOf, placeOf, restOf, choiceOf, lostOf, formatStep, readStep, writeStep, evictStep, bareStep, recoverStep, stepOf};
 use homes::places::Place;
+use recovery::call::Call;
+use recovery::lost::Lost;
 
-// The node that a Recover names, or that it names none.
-pub enum Lost {
-    Nobody,
-    Node(u64),
-}
-
-// What a record asks for.
+// What a record asks for: a call, or nothing that is in form.
 pub enum Step {
-    Format { nodes: u64, items: u64, frames: u64 },
-    Read { node: u64, item: u64 },
-    Write { node: u64, item: u64, value: u64 },
-    Evict { node: u64, item: u64, place: Place },
-    Open,
-    Create,
-    Commit,
-    Abandon,
-    Recover { lost: Lost },
+    Asked(Call),
     Malformed,
 }
 
@@ -73,11 +61,11 @@ fn format_step(first: u64, second: u64) -> Step
     ensures { λ r. ⌜ r ≡ formatStep first second ⌝ }
 {
     if table::words::size_form(first) & (second == 0) {
-        return Step::Format {
+        return Step::Asked(Call::Format {
             nodes: table::words::nodes_of(first),
             items: table::words::items_of(first),
             frames: table::words::frames_of(first),
-        };
+        });
     }
     Step::Malformed
 }
@@ -87,10 +75,10 @@ fn read_step(first: u64, second: u64) -> Step
     ensures { λ r. ⌜ r ≡ readStep first second ⌝ }
 {
     if (place_of(first) == 0) & ((rest_of(first) == 0) & (second == 0)) {
-        return Step::Read {
+        return Step::Asked(Call::Read {
             node: node_of(first),
             item: item_of(first),
-        };
+        });
     }
     Step::Malformed
 }
@@ -100,11 +88,11 @@ fn write_step(first: u64, second: u64) -> Step
     ensures { λ r. ⌜ r ≡ writeStep first second ⌝ }
 {
     if (place_of(first) == 0) & (rest_of(first) == 0) {
-        return Step::Write {
+        return Step::Asked(Call::Write {
             node: node_of(first),
             item: item_of(first),
             value: second,
-        };
+        });
     }
     Step::Malformed
 }
@@ -115,24 +103,24 @@ fn evict_step(first: u64, second: u64) -> Step
 {
     if (rest_of(first) == 0) & (second == 0) {
         let place = choice_of(first);
-        return Step::Evict {
+        return Step::Asked(Call::Evict {
             node: node_of(first),
             item: item_of(first),
             place,
-        };
+        });
     }
     Step::Malformed
 }
 
 // A record of an operation that uses no field.
-fn bare_step(step: Step, first: u64, second: u64) -> Step
-    ensures { λ r. ⌜ r ≡ bareStep step first second ⌝ }
+fn bare_step(call: Call, first: u64, second: u64) -> Step
+    ensures { λ r. ⌜ r ≡ bareStep call first second ⌝ }
 {
     if (node_of(first) == 0)
         & ((item_of(first) == 0)
             & ((place_of(first) == 0) & ((rest_of(first) == 0) & (second == 0))))
     {
-        return step;
+        return Step::Asked(call);
     }
     Step::Malformed
 }
@@ -146,7 +134,7 @@ fn recover_step(first: u64, second: u64) -> Step
             & ((second == 0) & ((place_of(first) == 0) | (node_of(first) == 0))))
     {
         let lost = lost_of(first);
-        return Step::Recover { lost };
+        return Step::Asked(Call::Recover { lost });
     }
     Step::Malformed
 }
@@ -160,10 +148,10 @@ pub fn decode(first: u64, second: u64) -> Step
         1 => read_step(first, second),
         2 => write_step(first, second),
         3 => evict_step(first, second),
-        4 => bare_step(Step::Open, first, second),
-        5 => bare_step(Step::Create, first, second),
-        6 => bare_step(Step::Commit, first, second),
-        7 => bare_step(Step::Abandon, first, second),
+        4 => bare_step(Call::Open, first, second),
+        5 => bare_step(Call::Create, first, second),
+        6 => bare_step(Call::Commit, first, second),
+        7 => bare_step(Call::Abandon, first, second),
         8 => recover_step(first, second),
         _ => Step::Malformed,
     }

@@ -7,11 +7,11 @@ use Rattle.quay.proofs.run.run_file.Statement.{statement}
 use Rattle.quay.proofs.run.run_file.Tie as tie
 
 abbrev Inv-loop : tie.InvT-loop
-Inv-loop fd table₀ progress₀ chunks₀ table progress chunks =
-    (length table ≡ 8000) × (progress .records + 4096 * chunks ≤ 2 ^ 59)
+Inv-loop fd table₀ scratch₀ progress₀ chunks₀ table scratch progress chunks =
+    (length table ≡ 8000) × (length scratch ≡ 272) × (progress .records + 4096 * chunks ≤ 2 ^ 59)
 
 abbrev μ-loop : tie.MeasureT-loop
-μ-loop fd table₀ progress₀ chunks₀ table progress chunks = chunks
+μ-loop fd table₀ scratch₀ progress₀ chunks₀ table scratch progress chunks = chunks
 
 pub run-file-spec : {M : Type 1} → statement M
 run-file-spec =
@@ -19,6 +19,7 @@ run-file-spec =
     (tie.spec
     Inv-loop
     μ-loop
+    (λ c. search needs)
     (λ c. search needs)
     (λ c. search needs)
     (λ c κs. search needs)
