@@ -1,0 +1,79 @@
+// The words of a table, Format, Check and Stretch.
+ghost use mathlib.Core.Path.{_≡_};
+ghost use Rattle.table.specs.Answers.{numbersAt};
+ghost use Rattle.entries.specs.Format.{formatOf};
+ghost use Rattle.entries.specs.Stretch.{checkOf};
+ghost use Rattle.linkspan.specs.Report.{planned, Reports};
+ghost use Rattle.linkspan.specs.Words.{wordsFor};
+ghost use Rattle.linkspan.specs.Part.{PartReports};
+use crate::report;
+use entries::stretch::Span;
+use table::answers;
+use table::answers::Answer;
+use table::geometry::Geometry;
+use table::geometry::Made;
+
+// The words that a table of these nodes and items needs, or 0 where no geometry has them.
+#[no_mangle]
+pub extern "C" fn linkspan_words(nodes: u64, items: u64) -> u64
+    ensures { λ r. ⌜ r ≡ wordsFor nodes items ⌝ }
+{
+    let made = Geometry::new(nodes, items, Geometry::FRAMES_MAX);
+    match made {
+        Made::NotAllowed => 0,
+        Made::Allowed(g) => g.words() as u64,
+    }
+}
+
+// A fresh table of these nodes, items and frames per node, in at most `limit` stores.
+#[no_mangle]
+pub extern "C" fn linkspan_format(
+    table: &mut [u64],
+    nodes: u64,
+    items: u64,
+    frames: u64,
+    limit: u64,
+    value: &mut u64,
+    stores: &mut u64,
+) -> u64
+    ensures { λ r. ⌜ Reports (planned (formatOf (now (table .entry)) nodes items frames)) limit (now (table .entry)) (now (table .exit)) (now (value .exit)) (now (stores .exit)) r ⌝ }
+{
+    let answer = entries::format::format(table, nodes, items, frames, limit);
+    report::report(answer, value, stores)
+}
+
+// 0 if the table passes the table checks, else the refusal's number.
+#[no_mangle]
+pub extern "C" fn linkspan_check(table: &[u64]) -> u64
+    ensures { λ r. ⌜ r ≡ numbersAt (checkOf (now (table .entry))) 0 .answer ⌝ }
+{
+    let answer = entries::check::check(table);
+    let numbers = answers::numbers_of(answer);
+    numbers.answer
+}
+
+// Where a node's entries lie in the caller's own table: their first word and how many they are, both 0 on a refusal.
+#[no_mangle]
+pub extern "C" fn linkspan_stretch(
+    table: &[u64],
+    node: u64,
+    start: &mut u64,
+    words: &mut u64,
+) -> u64
+    ensures { λ r. ⌜ PartReports (now (table .entry)) node (now (start .exit)) (now (words .exit)) r ⌝ }
+{
+    let at = entries::stretch::span_of(table, node);
+    match at {
+        Span::Refused(x) => {
+            *start = 0;
+            *words = 0;
+            let numbers = answers::numbers_of(Answer::Refused(x));
+            numbers.answer
+        }
+        Span::Entries { start: from, end } => {
+            *start = from as u64;
+            *words = (end - from) as u64;
+            0
+        }
+    }
+}
