@@ -75,4 +75,6 @@ pub mod RunPoints
 pub mod GoodValues
 pub mod Demand2Theorem
 pub mod Demand3Theorem
+pub mod Rehearsal
+pub mod RehearseCode
 pub mod Examples

@@ -1,0 +1,184 @@
+-- A REHEARSAL: demand 3, carried out by the code on a lent table. What it is given, as words; the tables that it goes through; what it owes.
+use Prim.Native.Nat.{ℕ, zero, suc, _+_, _-_, _*_, _/_, _≤_, _<_, min}
+use mathlib.Core.Path.{_≡_}
+use mathlib.Core.Bool.{Bool, true, false, cond, _&&_}
+use mathlib.Core.List.{List, [], _∷_, _++_}
+use lib.Dec.{eqb, ltb}
+use lib.ListN.{length, getD, set}
+use Rattle.table.specs.declared.geometry.Geometry.{Geometry}
+use Rattle.table.specs.declared.answers.Answer.{Answer}
+use Rattle.table.specs.declared.answers.Answer.the-variants.{Done}
+use Rattle.table.specs.Geometry.{entryWords, markAt, entryAt}
+use Rattle.table.specs.View.{View, view, live}
+use Rattle.table.specs.Answers.{Plan, answerOf, tableOf}
+use Rattle.entries.specs.declared.check.Checked.{Checked}
+use Rattle.entries.specs.declared.check.Checked.the-variants.{Passed, Failed}
+use Rattle.entries.specs.Check.{sizesOf}
+use Rattle.homes.specs.declared.places.Place.{Place}
+use Rattle.homes.specs.declared.places.Place.the-variants.{Current, Kept}
+use Rattle.recovery.specs.declared.lost.Lost.{Lost}
+use Rattle.recovery.specs.declared.lost.Lost.the-variants.{Nobody, Node}
+use Rattle.recovery.specs.declared.call.Call.{Call}
+use Rattle.recovery.specs.declared.call.Call.the-variants.{Format, Check, Stretch, Read, Write, Evict, Open, Create, Commit, Abandon, Recover}
+use Rattle.recovery.specs.Survivors.{survivors, carries}
+use Rattle.recovery.specs.Recover.{scratchWords, tooFew, recoverOf}
+use Rattle.recovery.specs.Memory.{Memory, zeros, carried, savedIn}
+use Rattle.recovery.specs.Run.{Step, geometryIn, storeCount, wholeTable, planAt, run, toPoint, commitsFrom, memoryFrom, Formatted}
+use Rattle.recovery.specs.Strike.{canBeCut, isCommit, liveOrNone}
+use Rattle.recovery.specs.OneItem.{OnTwoNodes, HasValue}
+
+-- ---- the list of calls: five words a call, its operation, three arguments and a flag
+
+unfoldable pub placeBy : ℕ → Place
+placeBy flag = cond (eqb flag 0) Current Kept
+
+unfoldable pub lostBy : ℕ → ℕ → Lost
+lostBy flag n = cond (eqb flag 0) Nobody (Node n)
+
+-- an operation that is none of these is a check
+unfoldable pub callBy : ℕ → ℕ → ℕ → ℕ → ℕ → Call
+callBy operation x y z flag =
+    cond (eqb operation 0) (Format x y z)
+    (cond (eqb operation 1) (Read x y)
+    (cond (eqb operation 2) (Write x y z)
+    (cond (eqb operation 3) (Evict x y (placeBy flag))
+    (cond (eqb operation 4) Open
+    (cond (eqb operation 5) Create
+    (cond (eqb operation 6) Commit
+    (cond (eqb operation 7) Abandon
+    (cond (eqb operation 8) (Recover (lostBy flag x))
+    (cond (eqb operation 10) (Stretch x)
+    Check)))))))))
+
+abbrev pub callCount : List ℕ → ℕ
+callCount words = length words / 5
+
+-- call i of the list; past its end a check
+unfoldable pub callAt : List ℕ → ℕ → Call
+callAt words i =
+    cond (ltb i (callCount words))
+    (callBy (getD words (5 * i) 0) (getD words (5 * i + 1) 0) (getD words (5 * i + 2) 0) (getD words (5 * i + 3) 0) (getD words (5 * i + 4) 0))
+    Check
+
+-- the first k calls of the list; each gets the same scratch
+unfoldable pub stepsTo : List ℕ → ℕ → ℕ → List Step
+stepsTo words scratch zero = []
+stepsTo words scratch (suc k) = stepsTo words scratch k ++ (record { call = callAt words k; scratch = scratch } ∷ [])
+
+-- ---- the hit: word i of the given ones becomes word i of the node, its mark and then its entries' words, as far as both go
+
+unfoldable pub nodeWordAt : Geometry → ℕ → ℕ → ℕ
+nodeWordAt g n i = cond (eqb i 0) (markAt n) (entryAt g n 0 + (i - 1))
+
+abbrev pub nodeWords : Geometry → ℕ
+nodeWords g = 1 + entryWords * g .items
+
+-- the first k of them
+unfoldable pub putTo : Geometry → ℕ → List ℕ → ℕ → List ℕ → List ℕ
+putTo g n words zero t = t
+putTo g n words (suc k) t = set (putTo g n words k t) (nodeWordAt g n k) (getD words k 0)
+
+-- nothing, if the node is not one of the table's
+unfoldable pub hitNode : Geometry → ℕ → List ℕ → List ℕ → List ℕ
+hitNode g n words t = cond (ltb n (g .nodes)) (putTo g n words (min (length words) (nodeWords g)) t) t
+
+unfoldable pub hitSized : Checked → ℕ → List ℕ → List ℕ → List ℕ
+hitSized (Failed r) n words t = t
+hitSized (Passed g) n words t = hitNode g n words t
+
+unfoldable pub hitBy : Lost → List ℕ → List ℕ → List ℕ
+hitBy Nobody words t = t
+hitBy (Node n) words t = hitSized (sizesOf t) n words t
+
+-- ---- the recoveries, broken off at the given limits
+
+unfoldable pub brokenAt : Lost → ℕ → List ℕ → List ℕ → List ℕ
+brokenAt lost scratch [] t = t
+brokenAt lost scratch (limit ∷ limits) t = brokenAt lost scratch limits (tableOf (recoverOf t lost scratch) limit t)
+
+-- ---- the rehearsal
+
+-- what it is given besides the table
+pub record Script : Type 0 where
+  -- the words of the whole calls
+  pub calls : List ℕ
+  -- the call that is cut, and its limit
+  pub call : Call
+  pub limit : ℕ
+  -- the node that is hit, and that every recovery names, or none; and its words then
+  pub lost : Lost
+  pub words : List ℕ
+  -- the limits of the recoveries that are broken off
+  pub limits : List ℕ
+  -- the length of the scratch
+  pub scratch : ℕ
+
+module _ (t₀ : List ℕ) (p : Script) where
+  -- the whole calls, and the call that is cut
+  abbrev pub wholeCalls : List Step
+  wholeCalls = stepsTo (p .calls) (p .scratch) (callCount (p .calls))
+
+  abbrev pub next : Step
+  next = record { call = p .call; scratch = p .scratch }
+
+  -- the tables, one after the other
+  abbrev pub before : List ℕ
+  before = run t₀ wholeCalls
+
+  abbrev pub cut : List ℕ
+  cut = tableOf (planAt before next) (p .limit) before
+
+  abbrev pub struck : List ℕ
+  struck = hitBy (p .lost) (p .words) cut
+
+  abbrev pub attempted : List ℕ
+  attempted = brokenAt (p .lost) (p .scratch) (p .limits) struck
+
+  abbrev pub lastRecovery : Plan
+  lastRecovery = recoverOf attempted (p .lost) (p .scratch)
+
+  abbrev pub recovered : List ℕ
+  recovered = wholeTable lastRecovery attempted
+
+  -- what demand 3 speaks of
+  abbrev pub geometry : Geometry
+  geometry = geometryIn before
+
+  abbrev pub surviving : View
+  surviving = survivors (p .lost) (view geometry cut)
+
+  abbrev pub commitCounts : Bool
+  commitCounts = isCommit (p .call) && carries geometry (commitsFrom 0 t₀ wholeCalls + 1) surviving
+
+  -- the plain memory: "fed the list, then a cut commit exactly when 3 finishes it, then the recovery"
+  abbrev pub memory : Formatted t₀ → Memory
+  memory formatted =
+      let fedList = memoryFrom (zeros (formatted .items)) t₀ wholeCalls in
+      carried (Recover (p .lost)) (cond commitCounts (carried Commit fedList) fedList)
+
+  abbrev pub undisturbed : List ℕ
+  undisturbed = run t₀ (cond commitCounts (wholeCalls ++ (next ∷ [])) (toPoint t₀ wholeCalls))
+
+  -- the demand's conditions
+  pub record Demanded : Type 0 where
+    pub formatted : Formatted t₀
+    pub cuttable : canBeCut (p .call) ≡ true
+    pub one : liveOrNone (view geometry cut) (p .lost) ≡ true
+    pub enough : scratchWords geometry ≤ p .scratch
+    pub room : tooFew geometry (survivors (p .lost) (view geometry struck)) ≡ false
+
+  -- the demand
+  pub record Restores (formatted : Formatted t₀) (t′ : List ℕ) (r : Answer) : Type 0 where
+    -- "recovery is carried out"
+    pub carried-out : r ≡ Done 0 (storeCount lastRecovery)
+    -- "and leaves each item on exactly two distinct live nodes, .. which document 01's plain memory has saved"
+    pub restored : (b : ℕ) → b < geometry .items → OnTwoNodes (view geometry t′) b (savedIn (memory formatted) b)
+    pub live-nodes : (n : ℕ) → live (view geometry t′) n ≡ live surviving n
+    -- "at the undisturbed run's value"
+    pub undisturbed-value : (b : ℕ) → b < geometry .items → HasValue (view geometry undisturbed) b (savedIn (memory formatted) b)
+
+-- THE CONTRACT: the table and the answer are those of the last recovery, for any script and table; and the demand
+pub record Rehearsed (p : Script) (t₀ t′ : List ℕ) (r : Answer) : Type 0 where
+  pub table : t′ ≡ recovered t₀ p
+  pub answer : r ≡ answerOf (lastRecovery t₀ p) (storeCount (lastRecovery t₀ p))
+  pub demand : (d : Demanded t₀ p) → Restores t₀ p (d .formatted) t′ r
