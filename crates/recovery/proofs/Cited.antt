@@ -1,5 +1,5 @@
 -- What each public call ensures, as a statement about tables: the contract itself, not a copy of it. These are the plans that the demands speak of,
--- so that a weaker contract is not accepted here. The arguments `a` are as the code has them, the table first; `s` is what is lent, at the exit.
+-- so that a weaker contract is refused here. `a` holds the arguments in the code's order, `s` the same at the exit, `r` is the result.
 use contract.Lifetimes
 use borrow.Fn.World
 use borrow.Fn.Kinds as Kinds
@@ -19,6 +19,7 @@ use Rattle.checkpoints.specs.Abandon.{abandonOf}
 use Rattle.recovery.specs.Recover.{recoverOf}
 use Rattle.recovery.specs.RecoverCode.{RecoverMeets}
 use Rattle.recovery.specs.CallCode.{CarriedOut}
+use Rattle.recovery.specs.Rehearsal.{Rehearsed}
 use Rattle.entries.proofs.format.format as format
 use Rattle.entries.proofs.format.format.Kinds as format-kinds
 use Rattle.entries.proofs.format.format.Reads as format-reads
@@ -55,6 +56,9 @@ use Rattle.recovery.proofs.recover.recover.Reads as recover-reads
 use Rattle.recovery.proofs.call.carry_out as carry-out
 use Rattle.recovery.proofs.call.carry_out.Kinds as carry-out-kinds
 use Rattle.recovery.proofs.call.carry_out.Reads as carry-out-reads
+use Rattle.recovery.proofs.rehearse.rehearse as rehearse
+use Rattle.recovery.proofs.rehearse.rehearse.Kinds as rehearse-kinds
+use Rattle.recovery.proofs.rehearse.rehearse.Reads as rehearse-reads
 
 pub format-says :
     (κs : Lifetimes.Lfts 1) (a : World.ArgsD format.signature κs) (r : World.ResD format.signature κs)
@@ -127,3 +131,9 @@ pub carry-out-says :
     (s : Clauses.AtExit (Kinds.endedOf 2 carry-out-kinds.ps carry-out-kinds.r) κs) → carry-out-reads.Learnt κs a r s
     → CarriedOut (a .1 .0) (a .1 .1 .1 .0) (now (a .0)) (now (s .0)) (now (a .1 .1 .0)) (now (s .1 .1 .0)) r
 carry-out-says κs a r s h = h
+
+pub rehearse-says :
+    (κs : Lifetimes.Lfts 5) (a : World.ArgsD rehearse.signature κs) (r : World.ResD rehearse.signature κs)
+    (s : Clauses.AtExit (Kinds.endedOf 5 rehearse-kinds.ps rehearse-kinds.r) κs) → rehearse-reads.Learnt κs a r s
+    → Rehearsed (record { calls = now (a .1 .0); call = a .1 .1 .0; limit = a .1 .1 .1 .0; lost = a .1 .1 .1 .1 .0; words = now (a .1 .1 .1 .1 .1 .0); limits = now (a .1 .1 .1 .1 .1 .1 .0); scratch = length (now (a .1 .1 .1 .1 .1 .1 .1 .0)) }) (now (a .0)) (now (s .0)) r
+rehearse-says κs a r s h = h

@@ -1,1 +1,2 @@
+-- What the public calls ensure, cited.
 pub mod Cited

@@ -77,4 +77,5 @@ pub mod Demand2Theorem
 pub mod Demand3Theorem
 pub mod Rehearsal
 pub mod RehearseCode
+pub mod RehearsalExample
 pub mod Examples

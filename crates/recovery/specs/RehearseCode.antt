@@ -2,15 +2,15 @@
 use Prim.Native.Nat.{ℕ, zero, suc, _+_, _-_, _*_, _^_, _≤_, _<_, min}
 use mathlib.Core.Path.{_≡_, refl, sym, ap, _∙_, subst}
 use mathlib.Core.Logic.{_≢_}
-use mathlib.Core.Bool.{Bool, true, false, cond, _&&_, _||_}
-use mathlib.Core.List.{List, [], _∷_, _++_}
+use mathlib.Core.Bool.{true, false}
+use mathlib.Core.List.{List, [], _∷_}
 use native.Mathlib.Omega.{arith}
 use native.Mathlib.Numerals.{add-one}
-use lib.Dec.{eqb, leb, ltb}
-use lib.ListN.{length, getD, set, drop, length-set}
+use lib.Dec.{eqb, ltb}
+use lib.ListN.{length, getD, drop, length-set}
 use lib.Seq.{getD-set-other, drop-cons, drop-length}
 use borrow.Author.Tests.{eqb-false, eq-eqb, ne-eqb, le-leb, lt-ltb, le-ltb}
-use Rattle.counting.specs.Tests.{by-cases, no-both}
+use Rattle.counting.specs.Tests.{by-cases, no-both, and-both, or-left, or-right}
 use Rattle.table.specs.declared.geometry.Geometry.{Geometry}
 use Rattle.table.specs.declared.answers.Answer.{Answer}
 use Rattle.table.specs.declared.answers.Answer.the-variants.{Done}
@@ -35,9 +35,9 @@ use Rattle.recovery.specs.RecoverCode.{RecoverMeets}
 use Rattle.recovery.specs.Call.{planOf, accepted}
 use Rattle.recovery.specs.CallCode.{CarriedOut}
 use Rattle.recovery.specs.Memory.{savedIn}
-use Rattle.recovery.specs.Run.{storeCount, wholeTable, tableBy, run, commitsFrom, memoryFrom, Formatted}
+use Rattle.recovery.specs.Run.{storeCount, wholeTable, tableBy, run}
 use Rattle.recovery.specs.RunPoints.{run-history, run-one}
-use Rattle.recovery.specs.Strike.{liveOrNone, ofNode, ofLost, Hit, Attempt, brokenOff, Strike}
+use Rattle.recovery.specs.Strike.{liveOrNone, ofNode, Hit, Attempt, brokenOff, Strike}
 use Rattle.recovery.specs.Strike as strikes
 use Rattle.recovery.specs.History.{begun}
 use Rattle.recovery.specs.HistoryTheorem.{history-good}
@@ -185,15 +185,11 @@ put-end g n words t {i} a b c e = let d : i ≡ min (length words) (nodeWords g)
 -- a word that is none of the node's
 module _ (g : Geometry) (n i : ℕ) (out : ofNode g n i ≡ false) where
   not-mark : i ≢ markAt n
-  not-mark e = no-both (rw (eq-eqb i (markAt n) e) refl) out
+  not-mark e = no-both (or-left _ (eq-eqb i (markAt n) e)) out
 
   not-entry : (k : ℕ) → k < nodeWords g - 1 → i ≢ entryAt g n 0 + k
   not-entry k h e =
-      no-both (rw (le-leb (entryAt g n 0) i (omega arith), lt-ltb i (entryAt g (n + 1) 0) (omega arith)) (or-true (eqb i (markAt n)))) out
-    where
-      or-true : (q : Bool) → (q || true) ≡ true
-      or-true true = refl
-      or-true false = refl
+      no-both (or-right (eqb i (markAt n)) (and-both (le-leb (entryAt g n 0) i (omega arith)) (lt-ltb i (entryAt g (n + 1) 0) (omega arith)))) out
 
   not-there : (k : ℕ) → k < nodeWords g → i ≢ nodeWordAt g n k
   unfolding nodeWordAt

@@ -44,16 +44,28 @@ fn call_by(operation: u64, x: u64, y: u64, z: u64, flag: u64) -> Call
     let place = place_by(flag);
     let lost = lost_by(flag, x);
     if operation == 0 {
-        return Call::Format { nodes: x, items: y, frames: z };
+        return Call::Format {
+            nodes: x,
+            items: y,
+            frames: z,
+        };
     }
     if operation == 1 {
         return Call::Read { node: x, item: y };
     }
     if operation == 2 {
-        return Call::Write { node: x, item: y, value: z };
+        return Call::Write {
+            node: x,
+            item: y,
+            value: z,
+        };
     }
     if operation == 3 {
-        return Call::Evict { node: x, item: y, place };
+        return Call::Evict {
+            node: x,
+            item: y,
+            place,
+        };
     }
     if operation == 4 {
         return Call::Open;
@@ -117,6 +129,7 @@ fn node_word_at(g: Geometry, node: u8, i: usize) -> usize
     first + (i - 1)
 }
 
+// The smaller of two.
 fn fewer(a: usize, b: usize) -> usize
     ensures { λ r. ⌜ r ≡ min a b ⌝ }
 {
@@ -139,7 +152,7 @@ fn put_words(table: &mut [u64], g: Geometry, node: u8, words: &[u64])
     }
 }
 
-// The same of a node, if it is one of the table's.
+// The same, if the node is one of the table's.
 fn hit_node(table: &mut [u64], g: Geometry, node: u64, words: &[u64])
     ensures { λ _. ⌜ now (table .exit) ≡ hitNode g node (now (words .entry)) (now (table .entry)) ⌝ }
 {

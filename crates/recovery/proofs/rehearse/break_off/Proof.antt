@@ -20,9 +20,16 @@ loop-again : tie.Need-loop-again Inv-loop μ-loop
 loop-again c =
     let o = c .before .before .before .before in
     let f = o .before .before .before in
-    let l = f .before .before in
-    (search needs, (search needs, (search needs,
-    broken-next _ _ _ _ (f .before .loop-test .taken) (l .loop .inv .1 .0) (l .loop .inv .1 .1 .1) (f .word .ensures) (o .recover .ensures))))
+    let l = f .before .before in (
+      search needs,
+      (
+        search needs,
+        (
+          search needs,
+          broken-next _ _ _ _ (f .before .loop-test .taken) (l .loop .inv .1 .0) (l .loop .inv .1 .1 .1) (f .word .ensures) (o .recover .ensures),
+        ),
+      ),
+    )
 
 pub break-off-spec : {M : Type 1} → statement M
 break-off-spec =

@@ -20,9 +20,16 @@ loop-again : tie.Need-loop-again Inv-loop μ-loop
 loop-again c =
     let o = c .before .before .before .before in
     let f = o .before .before .before in
-    let l = f .before .before in
-    (search needs, (search needs, (search needs,
-    ran-next _ _ _ (l .loop .inv .1 .0) (l .loop .inv .1 .1 .1) (f .call-at .ensures) (o .carry-out .ensures))))
+    let l = f .before .before in (
+      search needs,
+      (
+        search needs,
+        (
+          search needs,
+          ran-next _ _ _ (l .loop .inv .1 .0) (l .loop .inv .1 .1 .1) (f .call-at .ensures) (o .carry-out .ensures),
+        ),
+      ),
+    )
 
 pub run-calls-spec : {M : Type 1} → statement M
 run-calls-spec =
