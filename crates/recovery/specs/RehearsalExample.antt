@@ -35,7 +35,7 @@ use Rattle.homes.specs.Evict.{sourceStores, movedTo, evictStores, placeAdmissio
 use Rattle.checkpoints.specs.Open.{startAdmission}
 use Rattle.checkpoints.specs.Create.{sharesAt, sharerOf, partnerStores as createdPartner, createItem, noPartner, createPlan}
 use Rattle.checkpoints.specs.Commit.{commitStores, createdAdmission}
-use Rattle.recovery.specs.Exists.{exists}
+use Rattle.counting.specs.Exists.{exists}
 use Rattle.recovery.specs.Survivors.{survivorCount}
 use Rattle.recovery.specs.Sides.{forwardIn, copiesOn, itemFits, itemsFit}
 use Rattle.recovery.specs.Rolling.{bringBack, settled, rollChange, rollStores}
