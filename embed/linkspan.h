@@ -1,0 +1,241 @@
+/*
+ * linkspan.h: shared memory for planning programs, with a saved copy to go back to.
+ *
+ * A table is a slice of 64-bit words that YOU own and lend to each call. It holds up to 256 items
+ * (64-bit values) for up to 16 nodes (machines). A node reads and writes items; a save (a
+ * checkpoint) makes the present values the saved ones; when a node is lost, a recovery brings every
+ * item back to its saved value from the words of the nodes that are left. The library has no memory
+ * of its own, never allocates, never blocks, takes no locks and keeps nothing between calls.
+ *
+ * Five minutes:
+ *
+ *     uint64_t table[193];           // linkspan_words(3, 21) is 193
+ *     uint64_t scratch[21 + 3];      // items + nodes
+ *     uint64_t value, stores;
+ *     const uint64_t whole = LINKSPAN_WHOLE;
+ *
+ *     linkspan_format(table, 193, 3, 21, 64, whole, &value, &stores);  // every value is 0
+ *     linkspan_write(table, 193, 0, 5, 180, whole, &value, &stores);   // node 0: item 5 is 180
+ *     linkspan_read(table, 193, 2, 5, whole, &value, &stores);         // node 2: value is 180
+ *
+ *     linkspan_open(table, 193, whole, &value, &stores);               // a save begins,
+ *     while (linkspan_create(table, 193, whole, &value, &stores) == LINKSPAN_DONE)
+ *         ;                                                            // its copies are made,
+ *     linkspan_commit(table, 193, whole, &value, &stores);             // and it stands
+ *
+ *     linkspan_write(table, 193, 1, 5, 175, whole, &value, &stores);   // then node 1 is lost:
+ *     linkspan_recover(table, 193, 0, 1, scratch, 24, whole, &value, &stores);
+ *     linkspan_read(table, 193, 2, 5, whole, &value, &stores);         // value is 180 again
+ *
+ * Link with liblinkspan.a and nothing else.
+ *
+ *
+ * WHAT HOLDS FOR EVERY FUNCTION
+ *
+ * Answers. The return value is the answer: 0 the call was carried out; 17 (linkspan_create only)
+ * there was nothing left to do; any other number is a refusal and says why. The numbers are listed
+ * below as LINKSPAN_... and, with each function, in the order in which they are tested: where several
+ * reasons hold, the first in that order is given. The conditions are exact: a call to which none
+ * applies is carried out.
+ *
+ * Refusals store nothing. After a refusal (and after 17) the table and the scratch are word for word
+ * as before, and *value and *stores are 0.
+ *
+ * Any input is safe. The words of the table and of the scratch, every length and every number may be
+ * anything at all: the answer is then a refusal or a valid result. No function reads or writes
+ * outside the `len` words at `table`, the `scratch_len` words at `scratch`, and the words that its
+ * pointers to results point to. What you must see to: that those words are there and are aligned as
+ * uint64_t; that table, scratch and the result words do not overlap; and that during a call nobody
+ * else writes any of them (take a lock of your own, or let one thread make the calls). A pointer to
+ * an empty slice (length 0) is not followed. Pointers to results are always followed: never NULL.
+ *
+ * value and stores. *value is what a read found; for every other call it is 0. *stores is the number
+ * of words of the table that the call stored, counting a word again each time it is stored.
+ *
+ * limit. Every call that stores, stores one word at a time in an order that is laid down. With a
+ * limit it makes only the first `limit` of these stores and leaves the table as a machine does that
+ * stops in mid-call; *stores is then the number made, while the answer, *value and the scratch are
+ * those of the whole call. It is for tests and rehearsals. Otherwise pass LINKSPAN_WHOLE; no call
+ * makes as many as 2^16 stores. After a call that was cut off, or a machine that stopped in mid-call,
+ * the other calls may refuse the table (2): linkspan_recover puts it in order.
+ *
+ *
+ * WHAT A TABLE HOLDS
+ *
+ * Geometry: N nodes (3 to 16), M items (1 to 256), F frames per node (1 to 512), allowed if also
+ * (N - 2) * F >= 2 * M - 1. Nodes and items are counted from 0. A table has
+ * 1 + N + 3 * N * M words; a longer slice is fine, the words past these are never touched.
+ *
+ * Each node has an entry for each item, with two places: a current place and a kept place. A copy in
+ * a place takes up one of the node's F frames. Current copies have the item's present value; one
+ * node is its owner, others may be sharers. Two recovery copies, on two nodes, have the saved value:
+ * in the current place while the item has not been written since the save, in the kept place after.
+ * So the loss of any one node leaves every item a recovery copy.
+ *
+ * A node is live or dead. linkspan_format makes all nodes live; linkspan_recover makes the lost one
+ * dead, and only linkspan_format brings it back. The words of a dead node are never read.
+ *
+ * A table is sound if the calls can work on it: all words in form, no live node over its F frames,
+ * the live nodes agreed on the phase and number of the save, and each item either clean, dirty (written
+ * since the save) or, in an open checkpoint, created. A whole call, carried out on a sound table,
+ * leaves a sound table. You may lend bytes of any origin: every call checks before it stores.
+ */
+#ifndef LINKSPAN_H
+#define LINKSPAN_H
+
+#include <stddef.h>
+#include <stdint.h>
+
+#ifdef __cplusplus
+extern "C" {
+#endif
+
+/* The limit of a call that is to be made whole. */
+#define LINKSPAN_WHOLE UINT64_MAX
+
+/* The places of an entry, for linkspan_evict. */
+#define LINKSPAN_CURRENT ((uint64_t)0)
+#define LINKSPAN_KEPT ((uint64_t)1)
+
+/* Answers. */
+enum {
+    LINKSPAN_DONE = 0,                /* carried out */
+    LINKSPAN_TOO_SHORT = 1,           /* the table is empty, or shorter than its geometry needs */
+    LINKSPAN_NOT_SOUND = 2,           /* the table is not sound; in recover: a survivor's words are
+                                         out of form, or it uses more frames than it has */
+    LINKSPAN_NO_GEOMETRY = 3,         /* no allowed geometry in the table's first word, or asked for */
+    LINKSPAN_NO_SUCH_NODE = 4,        /* the node's number is N or more */
+    LINKSPAN_NO_SUCH_ITEM = 5,        /* the item's number is M or more */
+    LINKSPAN_NODE_DEAD = 6,           /* the node is dead */
+    LINKSPAN_CHECKPOINT_OPEN = 7,     /* a checkpoint is open: commit or abandon it first */
+    LINKSPAN_NO_CHECKPOINT_OPEN = 8,  /* no checkpoint is open: open one first */
+    LINKSPAN_NO_FRAME = 9,            /* the node needs a frame and has none free: evict something */
+    LINKSPAN_PLACE_INVALID = 10,      /* there is no copy in that place */
+    LINKSPAN_NO_HOME = 11,            /* no other live node can take the copy */
+    LINKSPAN_NOT_ALL_CREATED = 12,    /* a dirty item has not been created yet */
+    LINKSPAN_LAST_NUMBER = 13,        /* the table has had its 2^32 - 1 saves */
+    LINKSPAN_TOO_FEW_SURVIVORS = 14,  /* fewer than two survivors, or (k - 1) * F < 2 * M - 1 for
+                                         k survivors: they cannot hold two copies of everything */
+    LINKSPAN_NO_RECOVERY_COPY = 15,   /* an item has no recovery copy among the survivors, or two
+                                         that differ */
+    LINKSPAN_SHORT_SCRATCH = 16,      /* the scratch is shorter than M + N words */
+    LINKSPAN_NOTHING_LEFT = 17,       /* create: every dirty item has been created; not a refusal */
+    LINKSPAN_NO_SUCH_CHOICE = 18      /* evict: a place, recover: a `none`, other than 0 and 1 */
+};
+
+/*
+ * The number of words that a table for so many nodes and items has, or 0 where no geometry has
+ * them (nodes not 3 to 16, or items not 1 to 256).
+ */
+uint64_t linkspan_words(uint64_t nodes, uint64_t items);
+
+/*
+ * Is this table sound? Stores nothing.
+ * 0 yes; 1 empty; 3; 1 too short; 2 not sound.
+ */
+uint64_t linkspan_check(const uint64_t *table, size_t len);
+
+/*
+ * Where in your own table the node's entries are: words *start to *start + *words - 1, three words
+ * for each item, ascending: state, current value, kept value. On a refusal both are 0. The table
+ * need not be sound nor the node live. Stores nothing. You may read the entries there; what you
+ * change in them, the next call will check like everything else.
+ * 0; 1 empty; 3; 1 too short; 4.
+ */
+uint64_t linkspan_stretch(const uint64_t *table, size_t len, uint64_t node,
+                          uint64_t *start, uint64_t *words);
+
+/*
+ * Makes a new table in the slice, whatever it held: all nodes live, every value and saved value 0,
+ * no checkpoint open. Words past the table stay as they are.
+ * 0; 3 the geometry is not allowed; 1 the slice is too short for it.
+ */
+uint64_t linkspan_format(uint64_t *table, size_t len, uint64_t nodes, uint64_t items, uint64_t frames,
+                         uint64_t limit, uint64_t *value, uint64_t *stores);
+
+/*
+ * The node reads the item: *value is its present value. Afterwards the node has a copy; if it had
+ * none before, that takes a frame, and none is freed for it.
+ * 0; 1 empty; 3; 1 too short; 2; 4; 5; 6; 7; 9.
+ */
+uint64_t linkspan_read(uint64_t *table, size_t len, uint64_t node, uint64_t item,
+                       uint64_t limit, uint64_t *value, uint64_t *stores);
+
+/*
+ * The node writes the item: its value is now new_value, this node is its only owner, and the copies
+ * of the others are gone, save for the recovery copies, which are kept. A frame is needed unless
+ * the node is the item's owner or a sharer already; a recovery copy does not spare it.
+ * 0; 1 empty; 3; 1 too short; 2; 4; 5; 6; 7; 9.
+ */
+uint64_t linkspan_write(uint64_t *table, size_t len, uint64_t node, uint64_t item, uint64_t new_value,
+                        uint64_t limit, uint64_t *value, uint64_t *stores);
+
+/*
+ * The node gives up its copy in the place (LINKSPAN_CURRENT or LINKSPAN_KEPT), which frees a frame.
+ * A sharer's copy is dropped; any other goes to the next live node that can take it, which may drop
+ * a sharer's copy of its own for it. No value changes.
+ * 18 the place is neither; then 0; 1 empty; 3; 1 too short; 2; 4; 5; 6; 7; 10; 11.
+ */
+uint64_t linkspan_evict(uint64_t *table, size_t len, uint64_t node, uint64_t item, uint64_t place,
+                        uint64_t limit, uint64_t *value, uint64_t *stores);
+
+/*
+ * A save, in three steps. While a checkpoint is open, read, write and evict answer 7.
+ *
+ * linkspan_open opens a checkpoint.
+ * 0; 1 empty; 3; 1 too short; 2; 7; 13.
+ */
+uint64_t linkspan_open(uint64_t *table, size_t len,
+                       uint64_t limit, uint64_t *value, uint64_t *stores);
+
+/*
+ * linkspan_create makes the two new recovery copies of ONE item, the lowest dirty one that has none
+ * yet. Call it until it answers 17. If it answers 11, no other live node has room for the second
+ * copy: the checkpoint can then only be abandoned.
+ * 0; 17 nothing left; 1 empty; 3; 1 too short; 2; 8; 11.
+ */
+uint64_t linkspan_create(uint64_t *table, size_t len,
+                         uint64_t limit, uint64_t *value, uint64_t *stores);
+
+/*
+ * linkspan_commit makes the present values the saved ones and closes the checkpoint. If it is cut
+ * off, a recovery finishes it where a survivor's mark had been reached, and undoes it otherwise:
+ * for all items alike.
+ * 0; 1 empty; 3; 1 too short; 2; 8; 12.
+ */
+uint64_t linkspan_commit(uint64_t *table, size_t len,
+                         uint64_t limit, uint64_t *value, uint64_t *stores);
+
+/*
+ * linkspan_abandon closes the checkpoint without a save: present and saved values stay as they are.
+ * 0; 1 empty; 3; 1 too short; 2; 8.
+ */
+uint64_t linkspan_abandon(uint64_t *table, size_t len,
+                          uint64_t limit, uint64_t *value, uint64_t *stores);
+
+/*
+ * Brings every item back to its saved value and leaves a sound table with two recovery copies of
+ * each item and no other copies.
+ *
+ * none is 1 if no node was lost (`lost` is then not used), or 0 if node `lost` was: that node is
+ * dead from now on, and none of its words is read, so they may hold anything. A node that is dead
+ * already may be named. The survivors are the live nodes without the lost one.
+ *
+ * The table may be one that a call left when it was cut off. If the call was a commit that had
+ * reached a survivor's mark, the commit is finished and its values are the saved ones. A recovery
+ * that was itself cut off is simply made again.
+ *
+ * scratch is working space of at least M + N words. What it holds before does not matter; after a
+ * recovery that was carried out its first M + N words are 0, the others as before.
+ *
+ * 18 none is neither 0 nor 1; then 0; 1 empty; 3; 1 too short; 4; 16; 2; 14; 15.
+ */
+uint64_t linkspan_recover(uint64_t *table, size_t len, uint64_t none, uint64_t lost,
+                          uint64_t *scratch, size_t scratch_len,
+                          uint64_t limit, uint64_t *value, uint64_t *stores);
+
+#ifdef __cplusplus
+}
+#endif
+
+#endif

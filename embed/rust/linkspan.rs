@@ -1,0 +1,302 @@
+//! A safe wrapper of the library: a [`Table`] over words of the caller's, calls that say an
+//! [`Answer`].
+//!
+//! Add this file to a program (`mod linkspan;`) and link `liblinkspan.a`:
+//! `rustc -L FOLDER -l static=linkspan program.rs`. It needs `core` only.
+
+mod ffi {
+    extern "C" {
+        pub fn linkspan_words(nodes: u64, items: u64) -> u64;
+        pub fn linkspan_check(table: *const u64, len: usize) -> u64;
+        pub fn linkspan_stretch(table: *const u64, len: usize, node: u64, start: *mut u64, words: *mut u64) -> u64;
+        pub fn linkspan_format(
+            table: *mut u64,
+            len: usize,
+            nodes: u64,
+            items: u64,
+            frames: u64,
+            limit: u64,
+            value: *mut u64,
+            stores: *mut u64,
+        ) -> u64;
+        pub fn linkspan_read(
+            table: *mut u64,
+            len: usize,
+            node: u64,
+            item: u64,
+            limit: u64,
+            value: *mut u64,
+            stores: *mut u64,
+        ) -> u64;
+        pub fn linkspan_write(
+            table: *mut u64,
+            len: usize,
+            node: u64,
+            item: u64,
+            new_value: u64,
+            limit: u64,
+            value: *mut u64,
+            stores: *mut u64,
+        ) -> u64;
+        pub fn linkspan_evict(
+            table: *mut u64,
+            len: usize,
+            node: u64,
+            item: u64,
+            place: u64,
+            limit: u64,
+            value: *mut u64,
+            stores: *mut u64,
+        ) -> u64;
+        pub fn linkspan_open(table: *mut u64, len: usize, limit: u64, value: *mut u64, stores: *mut u64) -> u64;
+        pub fn linkspan_create(table: *mut u64, len: usize, limit: u64, value: *mut u64, stores: *mut u64) -> u64;
+        pub fn linkspan_commit(table: *mut u64, len: usize, limit: u64, value: *mut u64, stores: *mut u64) -> u64;
+        pub fn linkspan_abandon(table: *mut u64, len: usize, limit: u64, value: *mut u64, stores: *mut u64) -> u64;
+        pub fn linkspan_recover(
+            table: *mut u64,
+            len: usize,
+            none: u64,
+            lost: u64,
+            scratch: *mut u64,
+            scratch_len: usize,
+            limit: u64,
+            value: *mut u64,
+            stores: *mut u64,
+        ) -> u64;
+    }
+}
+
+/// Why a call was turned down. Table and scratch are then as they were.
+#[derive(Clone, Copy, PartialEq, Eq, Debug)]
+#[repr(u64)]
+pub enum Refusal {
+    /// The table is empty, or shorter than its geometry needs.
+    TooShort = 1,
+    /// The table is not sound; in a recovery, a survivor's words are out of form or it uses more
+    /// frames than it has.
+    NotSound = 2,
+    /// No allowed geometry in the table's first word, or asked for.
+    NoGeometry = 3,
+    NoSuchNode = 4,
+    NoSuchItem = 5,
+    NodeDead = 6,
+    /// A checkpoint is open: commit or abandon it first.
+    CheckpointOpen = 7,
+    NoCheckpointOpen = 8,
+    /// The node needs a frame and has none free: evict something.
+    NoFrame = 9,
+    /// There is no copy in that place.
+    PlaceInvalid = 10,
+    /// No other live node can take the copy.
+    NoHome = 11,
+    /// A dirty item has not been created yet.
+    NotAllCreated = 12,
+    /// The table has had its last save.
+    LastNumber = 13,
+    /// The survivors cannot hold two copies of everything.
+    TooFewSurvivors = 14,
+    /// An item has no recovery copy among the survivors, or two that differ.
+    NoRecoveryCopy = 15,
+    /// The scratch is shorter than items + nodes words.
+    ShortScratch = 16,
+}
+
+impl Refusal {
+    const ALL: [Refusal; 16] = [
+        Refusal::TooShort,
+        Refusal::NotSound,
+        Refusal::NoGeometry,
+        Refusal::NoSuchNode,
+        Refusal::NoSuchItem,
+        Refusal::NodeDead,
+        Refusal::CheckpointOpen,
+        Refusal::NoCheckpointOpen,
+        Refusal::NoFrame,
+        Refusal::PlaceInvalid,
+        Refusal::NoHome,
+        Refusal::NotAllCreated,
+        Refusal::LastNumber,
+        Refusal::TooFewSurvivors,
+        Refusal::NoRecoveryCopy,
+        Refusal::ShortScratch,
+    ];
+
+    /// The refusal's number, as the C functions return it.
+    pub fn number(self) -> u64 {
+        self as u64
+    }
+
+    fn of_number(number: u64) -> Refusal {
+        let found = Refusal::ALL.into_iter().find(|refusal| refusal.number() == number);
+        found.unwrap_or_else(|| panic!("the library answered {number}, which no call through this wrapper can give"))
+    }
+}
+
+/// What a call says.
+#[derive(Clone, Copy, PartialEq, Eq, Debug)]
+#[must_use]
+pub enum Answer {
+    /// Carried out: the value read (0 for every call but a read), and how many words were stored.
+    Done {
+        value: u64,
+        stores: u64,
+    },
+    /// Create alone: every dirty item has been created.
+    NothingLeft,
+    Refused(Refusal),
+}
+
+impl Answer {
+    pub fn is_done(self) -> bool {
+        matches!(self, Answer::Done { .. })
+    }
+}
+
+/// The place of an entry that a copy is evicted from.
+#[derive(Clone, Copy, PartialEq, Eq, Debug)]
+#[repr(u64)]
+pub enum Place {
+    Current = 0,
+    Kept = 1,
+}
+
+/// The limit of a call that is made whole.
+const WHOLE: u64 = u64::MAX;
+
+const NOTHING_LEFT: u64 = 17;
+
+/// Makes the call, with places for its value and its stores.
+fn answer(call: impl FnOnce(*mut u64, *mut u64) -> u64) -> Answer {
+    let (mut value, mut stores) = (0, 0);
+    match call(&mut value, &mut stores) {
+        0 => Answer::Done { value, stores },
+        NOTHING_LEFT => Answer::NothingLeft,
+        number => Answer::Refused(Refusal::of_number(number)),
+    }
+}
+
+/// The words that a table of so many nodes and items has, if there is a geometry with them.
+pub fn words(nodes: u64, items: u64) -> Option<usize> {
+    match unsafe { ffi::linkspan_words(nodes, items) } {
+        0 => None,
+        words => Some(words as usize),
+    }
+}
+
+/// A table in words that the caller lends. The words may hold anything: every call checks them.
+pub struct Table<'a> {
+    words: &'a mut [u64],
+    limit: u64,
+}
+
+impl<'a> Table<'a> {
+    pub fn new(words: &'a mut [u64]) -> Table<'a> {
+        Table { words, limit: WHOLE }
+    }
+
+    /// The table as a machine sees it that stops after so many stores: each call made through it
+    /// makes only the first `stores` of its stores.
+    pub fn cut_after(&mut self, stores: u64) -> Table<'_> {
+        Table { words: self.words, limit: stores }
+    }
+
+    pub fn words(&self) -> &[u64] {
+        self.words
+    }
+
+    pub fn words_mut(&mut self) -> &mut [u64] {
+        self.words
+    }
+
+    /// Whether the table is sound.
+    pub fn check(&self) -> Result<(), Refusal> {
+        match unsafe { ffi::linkspan_check(self.words.as_ptr(), self.words.len()) } {
+            0 => Ok(()),
+            number => Err(Refusal::of_number(number)),
+        }
+    }
+
+    fn stretch_range(&self, node: u64) -> Result<core::ops::Range<usize>, Refusal> {
+        let (mut start, mut words) = (0, 0);
+        let (table, len) = (self.words.as_ptr(), self.words.len());
+        match unsafe { ffi::linkspan_stretch(table, len, node, &mut start, &mut words) } {
+            0 => Ok(start as usize..(start + words) as usize),
+            number => Err(Refusal::of_number(number)),
+        }
+    }
+
+    /// The part of the table that holds the node's entries.
+    pub fn stretch(&self, node: u64) -> Result<&[u64], Refusal> {
+        self.stretch_range(node).map(|range| &self.words[range])
+    }
+
+    pub fn stretch_mut(&mut self, node: u64) -> Result<&mut [u64], Refusal> {
+        self.stretch_range(node).map(|range| &mut self.words[range])
+    }
+
+    /// The table's words, their number and the limit, as every storing call takes them.
+    fn lent(&mut self) -> (*mut u64, usize, u64) {
+        (self.words.as_mut_ptr(), self.words.len(), self.limit)
+    }
+
+    /// Makes a new table in the words, whatever they held.
+    pub fn format(&mut self, nodes: u64, items: u64, frames: u64) -> Answer {
+        let (table, len, limit) = self.lent();
+        answer(|value, stores| unsafe { ffi::linkspan_format(table, len, nodes, items, frames, limit, value, stores) })
+    }
+
+    /// The node reads the item.
+    pub fn read(&mut self, node: u64, item: u64) -> Answer {
+        let (table, len, limit) = self.lent();
+        answer(|value, stores| unsafe { ffi::linkspan_read(table, len, node, item, limit, value, stores) })
+    }
+
+    /// The node writes the item and becomes its only owner.
+    pub fn write(&mut self, node: u64, item: u64, new_value: u64) -> Answer {
+        let (table, len, limit) = self.lent();
+        answer(|value, stores| unsafe { ffi::linkspan_write(table, len, node, item, new_value, limit, value, stores) })
+    }
+
+    /// The node gives up its copy in that place.
+    pub fn evict(&mut self, node: u64, item: u64, place: Place) -> Answer {
+        let (table, len, limit) = self.lent();
+        answer(|value, stores| unsafe {
+            ffi::linkspan_evict(table, len, node, item, place as u64, limit, value, stores)
+        })
+    }
+
+    /// Opens a checkpoint.
+    pub fn open(&mut self) -> Answer {
+        let (table, len, limit) = self.lent();
+        answer(|value, stores| unsafe { ffi::linkspan_open(table, len, limit, value, stores) })
+    }
+
+    /// Makes the new recovery copies of the next dirty item.
+    pub fn create(&mut self) -> Answer {
+        let (table, len, limit) = self.lent();
+        answer(|value, stores| unsafe { ffi::linkspan_create(table, len, limit, value, stores) })
+    }
+
+    /// Makes the present values the saved ones and closes the checkpoint.
+    pub fn commit(&mut self) -> Answer {
+        let (table, len, limit) = self.lent();
+        answer(|value, stores| unsafe { ffi::linkspan_commit(table, len, limit, value, stores) })
+    }
+
+    /// Closes the checkpoint without a save.
+    pub fn abandon(&mut self) -> Answer {
+        let (table, len, limit) = self.lent();
+        answer(|value, stores| unsafe { ffi::linkspan_abandon(table, len, limit, value, stores) })
+    }
+
+    /// Brings every item back to its saved value, without the lost node if there is one. The scratch
+    /// needs items + nodes words.
+    pub fn recover(&mut self, lost: Option<u64>, scratch: &mut [u64]) -> Answer {
+        let (table, len, limit) = self.lent();
+        let none = lost.is_none() as u64;
+        let (space, space_len) = (scratch.as_mut_ptr(), scratch.len());
+        answer(|value, stores| unsafe {
+            ffi::linkspan_recover(table, len, none, lost.unwrap_or(0), space, space_len, limit, value, stores)
+        })
+    }
+}
