@@ -1,9 +1,9 @@
 -- The partners on a view: before each store every entry of a survivor is plain, and after them all each item is a pair.
 use Prim.Native.Nat.{ℕ, suc, _+_, _-_, _≤_, _<_}
-use mathlib.Core.Path.{_≡_, refl, sym, ap, ap₂, _∙_}
+use mathlib.Core.Path.{_≡_, refl, sym, ap, ap₂, subst, _∙_}
 use mathlib.Core.Logic.{_⊎_, inl, inr, _≢_}
 use mathlib.Core.Bool.{false, not, _&&_}
-use mathlib.Core.List.{[], _∷_, map}
+use mathlib.Core.List.{map}
 use native.Mathlib.Omega.{arith}
 use native.Mathlib.Decide.{ℕ-discrete}
 use lib.Dec.{eqb}
@@ -13,7 +13,7 @@ use Rattle.table.specs.declared.geometry.Geometry.{Geometry}
 use Rattle.table.specs.Words.{invalid, sharedCK1, sharedCK2, stateWord, current-state, kept-state}
 use Rattle.table.specs.Forms.{alone-form}
 use Rattle.table.specs.Changes.{checkpointOf}
-use Rattle.table.specs.Stores.{entryStore, valueTo, stateTo}
+use Rattle.table.specs.Stores.{entryStore}
 use Rattle.table.specs.View.{Entry, View, live, current}
 use Rattle.table.specs.Via.{Via, done, via-weaken, via-loosen}
 use Rattle.table.specs.Pass.{Steps, last, next, Changed}
@@ -82,11 +82,17 @@ shared-plain code x y s =
       value = λ _. refl;
     }
 
+-- the Shared-CK of the number that a copy does not have
+abbrev absentCode : Entry → ℕ
+absentCode e = sharedCK (3 - checkpointOf (current e))
+
 -- "(value, state)" on an Invalid place
 takes-steps :
-    (e : Entry) (x code : ℕ) → PlainEntry x e → current e ≡ invalid → (code ≡ sharedCK1) ⊎ (code ≡ sharedCK2)
-    → Steps (Taking e x) (λ e′. current e′ ≡ code) e (valueTo x ∷ stateTo code invalid ∷ [])
-takes-steps e x code p z c =
+    (e from : Entry) → PlainEntry (from .value) e → current e ≡ invalid → (absentCode from ≡ sharedCK1) ⊎ (absentCode from ≡ sharedCK2)
+    → Steps (Taking e (from .value)) (λ e′. current e′ ≡ absentCode from) e (partnerChanges from)
+unfolding partnerChanges
+takes-steps e from p z c =
+    let code : ℕ = absentCode from in
     let s = shared-code code c in
     let l = s .low in
     next (record { plain = p; frames = omega arith })
@@ -97,7 +103,7 @@ takes-steps e x code p z c =
     })
     (last
     (record {
-      plain = shared-plain code x (e .keptValue) s;
+      plain = shared-plain code (from .value) (e .keptValue) s;
       frames = rw (frames-state code 0 (omega arith) (omega arith), ne-eqb code 0 (s .some)) (omega arith);
     })
     (current-state code 0 (omega arith) (omega arith))))
@@ -135,12 +141,13 @@ module _ (g : Geometry) (saved : ℕ → ℕ) (w u : View) (plain : Plain g save
       }
 
   taken-via :
-      (code : ℕ) → (code ≡ sharedCK1) ⊎ (code ≡ sharedCK2)
-      → Via g (Plain g saved w) (Changed (λ e. current e ≡ code) h b u) u (map (entryStore h b) (valueTo (saved b) ∷ stateTo code invalid ∷ []))
-  taken-via code c =
+      (from : Entry) → from .value ≡ saved b → (absentCode from ≡ sharedCK1) ⊎ (absentCode from ≡ sharedCK2)
+      → Via g (Plain g saved w) (Changed (λ e. current e ≡ absentCode from) h b u) u (map (entryStore h b) (partnerChanges from))
+  taken-via from x c =
       via-loosen
-      (one-via g (Taking (u .entry h b) (saved b)) (λ e. current e ≡ code) h b (home .there) hb u
-      (takes-steps (u .entry h b) (saved b) code (plain .entries h b home hb) empty c))
+      (one-via g (Taking (u .entry h b) (saved b)) (λ e. current e ≡ absentCode from) h b (home .there) hb u
+      (subst (λ y. Steps (Taking (u .entry h b) y) (λ e. current e ≡ absentCode from) (u .entry h b) (partnerChanges from)) x
+      (takes-steps (u .entry h b) from (subst (λ y. PlainEntry y (u .entry h b)) (sym x) (plain .entries h b home hb)) empty c)))
       taking-plain
 
   -- ---- the copy on node a was alone, and has its partner on node h
@@ -206,15 +213,15 @@ module _ (g : Geometry) (saved : ℕ → ℕ) (w : View) (enough : tooFew g w �
         (done plain (one-more u p (λ c i d. ((λ q. q), (λ q. q)))))
 
     gets : (a : ℕ) → Only (g .nodes) (copy u b) a → Via g (Plain g saved w) (Upto g (suc b)) u (partnerStores g b u)
-    unfolding partnerStores single holderOf partnerFrom partnerChanges
+    unfolding partnerStores single holderOf partnerFrom
     gets a o =
         let f = partner-found g saved w u plain enough (upto .numbered) b a hb o in
         let h = partnerOf g u b a in
         let c = coded g saved w u plain b a hb (o .within) (o .holds) in
         let x = plain .entries a b (test-live g u a (o .within) (copy-live u b a (o .holds))) hb .value (copy-code u b a (o .holds)) in
-        rw (only-counts (g .nodes) (copy u b) a o, only-first (g .nodes) (copy u b) a o, ne-eqb h a (f .other), x)
+        rw (only-counts (g .nodes) (copy u b) a o, only-first (g .nodes) (copy u b) a o, ne-eqb h a (f .other))
         (via-weaken
-        (taken-via g saved w u plain b h hb (f .alive) (f .empty) (f .free) (sharedCK (3 - checkpointOf (current (u .entry a b)))) (absent (current (u .entry a b)) c))
+        (taken-via g saved w u plain b h hb (f .alive) (f .empty) (f .free) (u .entry a b) x (absent (current (u .entry a b)) c))
         (λ v p r.
         let m = p .marks ∙ sym (plain .marks) in
         one-more v

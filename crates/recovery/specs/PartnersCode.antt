@@ -18,7 +18,7 @@ use Rattle.table.specs.Geometry.{wordsOf}
 use Rattle.table.specs.Words.{currentOf, keptOf, invalid}
 use Rattle.table.specs.Changes.{checkpointOf}
 use Rattle.table.specs.Stores.{Store, Stored, StoredIn, entryStore, valueTo, stateTo, stored-none, stored-as, stored-two, All, none, all-then}
-use Rattle.table.specs.View.{View, view, live, current, updates}
+use Rattle.table.specs.View.{Entry, View, view, live, current, updates}
 use Rattle.entries.specs.Frames.{setFrames, used, framesAt}
 use Rattle.entries.specs.Tally.{copy}
 use Rattle.homes.specs.Home.{hasFrame, nodeAfter}
@@ -192,15 +192,15 @@ partner-none g w s b n i h so k l =
     let e : i ≡ g .nodes - 1 = omega arith in
     sym (ap (nodeAfter g n) (sym (first-ends (takesByAfter g w s b n) i (g .nodes - 1) so k l)) ∙ after-all g n h)
 
--- ---- the partner's stores: "(value, state)"
+-- ---- the partner's stores: "(value, state)"; the premises are in the order of the code's stores
 
 pub partner-made :
-    {g : Geometry} (v : View) (p b n : ℕ) {x state code left left₁ left₂ : ℕ} {t t₁ t₂ : List ℕ} → x ≡ v .entry n b .value
-    → state ≡ v .entry n b .state → code ≡ sharedCK (3 - checkpointOf (currentOf state))
-    → Stored g left (entryStore p b (valueTo x) ∷ []) t t₁ left₁ → Stored g left₁ (entryStore p b (stateTo code invalid) ∷ []) t₁ t₂ left₂
-    → StoredIn g left p b (partnerChanges (v .entry n b)) t t₂ left₂
+    {g : Geometry} (p b : ℕ) (e : Entry) {x state code left left₁ left₂ : ℕ} {t t₁ t₂ : List ℕ}
+    → x ≡ e .value → state ≡ e .state → code ≡ sharedCK (3 - checkpointOf (currentOf state))
+    → StoredIn g left p b (valueTo x ∷ []) t t₁ left₁
+    → StoredIn g left₁ p b (stateTo code invalid ∷ []) t₁ t₂ left₂ → StoredIn g left p b (partnerChanges e) t t₂ left₂
 unfolding partnerChanges
-partner-made v p b n hx hs hd a d = rw (← hs, ← hx, ← hd) (stored-two a d)
+partner-made p b e hx hs hd a d = rw (← hs, ← hx, ← hd) (stored-two a d)
 
 -- ---- the frames of a node that takes a partner
 

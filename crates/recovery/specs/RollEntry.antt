@@ -4,17 +4,17 @@ use Prim.Native.Nat.{ℕ, _+_, _≤_, _<_}
 use mathlib.Core.Path.{_≡_, refl, sym, ap, ap₂, _∙_}
 use mathlib.Core.Logic.{_≢_}
 use mathlib.Core.Bool.{Bool, true, false, not, cond, _&&_, _||_}
-use mathlib.Core.List.{[], _∷_, _++_}
+use mathlib.Core.List.{[], _∷_}
 use native.Mathlib.Omega.{arith}
 use lib.Dec.{eqb, ltb, leb}
 use borrow.Author.Tests.{eqb-true, eqb-false, ltb-true, leb-true, ne-eqb, not-true}
-use Rattle.counting.specs.Tests.{both, other-holds, no-both}
+use Rattle.counting.specs.Tests.{by-cases, both, other-holds, no-both}
 use Rattle.counting.specs.Counting.{every, every-at}
 use Rattle.table.specs.declared.changes.Event.the-variants.{RollBack, RollForward}
 use Rattle.table.specs.Words.{stateWord, currentOf, keptOf, stateForm, invalid, current-state, kept-state}
 use Rattle.table.specs.Forms.{form-facts, low-form, alone-form}
 use Rattle.table.specs.Changes.{changeOf, checkpointOf}
-use Rattle.table.specs.Stores.{stateTo, valueTo}
+use Rattle.table.specs.Stores.{stateTo}
 use Rattle.table.specs.View.{Entry, current, kept, changed}
 use Rattle.table.specs.Pass.{Steps, last, next}
 use Rattle.table.specs.Copies.{backBy, value-free, back-moved}
@@ -210,11 +210,6 @@ module _ (e : Entry) (form : stateForm (e .state) ≡ true) where
           value = λ _. refl;
         }
 
-    bring-steps :
-        (s : ℕ) → Emptied e s
-        → Steps (SafeOn false e) (Rolled e) (beside s (e .value)) (valueTo (e .keptValue) ∷ stateTo (sharedCK (kept e)) invalid ∷ [])
-    bring-steps s m = next (emptied-safe s (e .value) m) (next (emptied-safe s (e .keptValue) m) (last brought-safe brought-rolled))
-
     none-current : Emptied e (stateWord invalid (kept e))
     unfolding framesIn
     none-current =
@@ -229,13 +224,15 @@ module _ (e : Entry) (form : stateForm (e .state) ≡ true) where
 
     back-steps : Steps (SafeOn false e) (Rolled e) e (bringBack e)
     unfolding bringBack
-    back-steps = go (eqb (current e) invalid) refl
-      where
-        go : (q : Bool) → eqb (current e) invalid ≡ q
-            → Steps (SafeOn false e) (Rolled e) e
-            (cond q [] (stateTo invalid (kept e) ∷ []) ++ (valueTo (e .keptValue) ∷ stateTo (sharedCK (kept e)) invalid ∷ []))
-        go true h = bring-steps (e .state) (record { code = eqb-true _ 0 h; same = refl; form = form; frames = omega arith })
-        go false h = next (begin false) (bring-steps (stateWord invalid (kept e)) none-current)
+    back-steps =
+        by-cases (eqb (current e) invalid)
+        (λ h.
+        let m : Emptied e (e .state) = record { code = eqb-true _ 0 h; same = refl; form = form; frames = omega arith } in
+        rw h (next (emptied-safe (e .state) (e .value) m) (next (emptied-safe (e .state) (e .keptValue) m) (last brought-safe brought-rolled))))
+        (λ h.
+        let s : ℕ = stateWord invalid (kept e) in
+        let m : Emptied e s = none-current in
+        rw h (next (begin false) (next (emptied-safe s (e .value) m) (next (emptied-safe s (e .keptValue) m) (last brought-safe brought-rolled)))))
 
   -- ---- either way
   pub roll-steps : (forward : Bool) → Steps (SafeOn forward e) (Rolled e) e (rollChange forward e)
