@@ -27,13 +27,14 @@ use Rattle.recovery.specs.Run.{Step, geometryIn, storeCount, wholeTable,
 use Rattle.recovery.specs.Strike.{canBeCut, isCommit, liveOrNone}
 use Rattle.recovery.specs.OneItem.{OnTwoNodes, HasValue}
 
--- ---- the list of calls: five words a call, its operation, three arguments and a flag
+-- ---- the list of calls: five words a call, its operation, three arguments and a flag. The flag of an Evict is its place (0 current, else kept), that of a
+-- Recover says that none was lost (0: the node of the first argument, else none).
 
 unfoldable pub placeBy : ℕ → Place
 placeBy flag = cond (eqb flag 0) Current Kept
 
 unfoldable pub lostBy : ℕ → ℕ → Lost
-lostBy flag n = cond (eqb flag 0) Nobody (Node n)
+lostBy flag n = cond (eqb flag 0) (Node n) Nobody
 
 -- an operation that is none of these is a check
 unfoldable pub callBy : ℕ → ℕ → ℕ → ℕ → ℕ → Call

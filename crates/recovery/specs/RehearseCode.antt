@@ -58,13 +58,13 @@ pub place-kept : (flag : ℕ) → flag ≢ 0 → Kept ≡ placeBy flag
 unfolding placeBy
 place-kept flag e = simp (ne-eqb flag 0 e)
 
-pub lost-nobody : (flag n : ℕ) → flag ≡ 0 → Nobody ≡ lostBy flag n
+pub lost-node : (flag n : ℕ) → flag ≡ 0 → Node n ≡ lostBy flag n
 unfolding lostBy
-lost-nobody flag n e = rw e refl
+lost-node flag n e = rw e refl
 
-pub lost-node : (flag n : ℕ) → flag ≢ 0 → Node n ≡ lostBy flag n
+pub lost-nobody : (flag n : ℕ) → flag ≢ 0 → Nobody ≡ lostBy flag n
 unfolding lostBy
-lost-node flag n e = simp (ne-eqb flag 0 e)
+lost-nobody flag n e = simp (ne-eqb flag 0 e)
 
 module _ (operation x y z flag : ℕ) where
   pub by-format : operation ≡ 0 → Format x y z ≡ callBy operation x y z flag

@@ -32,9 +32,9 @@ fn lost_by(flag: u64, node: u64) -> Lost
     ensures { λ r. ⌜ r ≡ lostBy flag node ⌝ }
 {
     if flag == 0 {
-        return Lost::Nobody;
+        return Lost::Node(node);
     }
-    Lost::Node(node)
+    Lost::Nobody
 }
 
 // A call of its five words.
