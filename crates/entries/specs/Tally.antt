@@ -1,15 +1,16 @@
 -- What is counted of one item over the live nodes; and the code's tally of it.
 use mathlib.Core.Path.{_≡_}
-use mathlib.Core.Bool.{Bool, not, _&&_}
-use Prim.Native.Nat.{ℕ, _<_}
+use mathlib.Core.Bool.{Bool, not, cond, _&&_}
+use mathlib.Core.List.{List, [], _∷_}
+use Prim.Native.Nat.{ℕ, _+_, _*_, _/_, _%_, _^_, _<_}
 use lib.Dec.{eqb}
-use lib.ListN.{getD, length}
-use Rattle.table.specs.View.{Entry, View, live, current, kept}
+use lib.ListN.{getD}
+use Rattle.table.specs.View.{View, live, current, kept}
 use Rattle.counting.specs.Counting.{count}
-use Rattle.counting.specs.Values.{valuesOf}
+use Rattle.counting.specs.Values.{metOf, valuesOf}
 use Rattle.counting.specs.declared.values.Values.{Values}
 use Rattle.entries.specs.declared.tally.Tally.{Tally}
-use Rattle.entries.specs.declared.tally.Held.{Held}
+use Rattle.entries.specs.declared.tally.Side.{Side}
 
 pub record Counts : Type 0 where
   pub current : ℕ → ℕ
@@ -42,27 +43,72 @@ countsOf v b n = record {
   keeps = valuesOf n (keep v b) (λ n. v .entry n b .keptValue);
 }
 
--- ---- what the code finds at an entry, with the ranges that the width of the fields gives
+-- ---- the tally of the code: a side for the current places and one for the kept places
 
-abbrev pub heldOf : Entry → Held
-heldOf e = record { current = current e; kept = kept e; value = e .value; «kept_value» = e .keptValue }
+-- what a copy at a code adds to the counts of a side, 8 bits a count: a 1 in the lowest for any copy, a 1 in that of its code, 1 to 7
+abbrev pub weights : List ℕ
+weights =
+    0
+    ∷ 0x101
+    ∷ 0x10001
+    ∷ 0x1000001
+    ∷ 0x100000001
+    ∷ 0x10000000001
+    ∷ 0x1000000000001
+    ∷ 0x100000000000001
+    ∷ 1
+    ∷ 1
+    ∷ 1
+    ∷ 1
+    ∷ 1
+    ∷ 1
+    ∷ 1
+    ∷ 1
+    ∷ []
 
-pub record Looked (e : Entry) (h : Held) : Type 0 where
-  pub fields : h ≡ heldOf e
-  pub code : h .current < 16
-  pub keptCode : h .kept < 4
+abbrev pub weightOf : ℕ → ℕ
+weightOf code = getD weights code 0
 
--- ---- the tally of the code: a list of counts by code for a function
+-- one copy more, and one entry more, which is a copy unless its code is 0
+abbrev pub withCopy : Side → ℕ → ℕ → Side
+withCopy s code x = record { counts = s .counts + weightOf code; values = metOf (s .values) x }
 
+unfoldable pub sideMet : Side → ℕ → ℕ → Side
+sideMet s code x = cond (eqb code 0) s (withCopy s code x)
+
+-- a code has a weight, and there is room for it
+pub record Room (s : Side) (code : ℕ) : Type 0 where
+  pub low : code < 16
+  pub room : s .counts + weightOf code < 2 ^ 64
+
+-- the counts as functions of the code
 abbrev pub tallied : Tally → Counts
-tallied t = record { current = λ code. getD (t .current) code 0; kept = λ code. getD (t .kept) code 0; copies = t .copies; values = t .values; keeps = t .keeps }
+tallied t = record {
+  current = λ code. t .current .counts / 2 ^ (8 * code) % 256;
+  kept = λ code. t .kept .counts / 2 ^ (8 * code) % 256;
+  copies = t .current .counts % 256;
+  values = t .current .values;
+  keeps = t .kept .values;
+}
 
--- it has counted item b over the live nodes below n
+-- of the nodes below n that are live: how many have a copy, and how many each of the codes 1 to 7
+unfoldable pub packed : (ℕ → Bool) → (ℕ → ℕ) → ℕ → ℕ
+packed lives code n =
+    count (λ m. lives m && not (eqb (code m) 0)) n
+    + count (λ m. lives m && eqb (code m) 1) n * 2 ^ 8
+    + count (λ m. lives m && eqb (code m) 2) n * 2 ^ 16
+    + count (λ m. lives m && eqb (code m) 3) n * 2 ^ 24
+    + count (λ m. lives m && eqb (code m) 4) n * 2 ^ 32
+    + count (λ m. lives m && eqb (code m) 5) n * 2 ^ 40
+    + count (λ m. lives m && eqb (code m) 6) n * 2 ^ 48
+    + count (λ m. lives m && eqb (code m) 7) n * 2 ^ 56
+
+-- a side has counted the codes and met the values of the live nodes below n
+pub record Sided (lives : ℕ → Bool) (code value : ℕ → ℕ) (n : ℕ) (s : Side) : Type 0 where
+  pub counts : s .counts ≡ packed lives code n
+  pub values : s .values ≡ valuesOf n (λ m. lives m && not (eqb (code m) 0)) value
+
+-- the tally has counted item b over the live nodes below n
 pub record Tallied (v : View) (b n : ℕ) (t : Tally) : Type 0 where
-  pub current : (code : ℕ) → code < 16 → getD (t .current) code 0 ≡ count (has v b code) n
-  pub kept : (code : ℕ) → code < 4 → getD (t .kept) code 0 ≡ count (hasKept v b code) n
-  pub copies : t .copies ≡ count (copy v b) n
-  pub values : t .values ≡ valuesOf n (copy v b) (λ n. v .entry n b .value)
-  pub keeps : t .keeps ≡ valuesOf n (keep v b) (λ n. v .entry n b .keptValue)
-  pub size : length (t .current) ≡ 16
-  pub keptSize : length (t .kept) ≡ 4
+  pub current : Sided (live v) (λ m. current (v .entry m b)) (λ m. v .entry m b .value) n (t .current)
+  pub kept : Sided (live v) (λ m. kept (v .entry m b)) (λ m. v .entry m b .keptValue) n (t .kept)

@@ -1,91 +1,95 @@
 // What is counted of one item over the live nodes: places by their code, and values that should be equal.
-ghost use Prim.Native.Nat.{_+_};
-ghost use Rattle.counting.specs.Counting.{Counted};
+ghost use Prim.Native.Nat.{_+_, _<_};
+ghost use mathlib.Core.Path.{_≡_};
 ghost use Rattle.table.specs.View.{view};
-ghost use Rattle.entries.specs.Tally.{Looked, Tallied};
-ghost use Rattle.entries.specs.TallyLoop.{Roomy, Entered};
+ghost use Rattle.entries.specs.Tally.{Room, withCopy, sideMet, Tallied};
 use counting::values::Values;
 use table::geometry::Geometry;
 use table::stores;
 use table::words;
 
-// What a node holds of an item.
-pub struct Held {
-    pub current: u8,
-    pub kept: u8,
-    pub value: u64,
-    pub kept_value: u64,
-}
-
-// Live nodes by the code of their current place and of their kept place; how many have a current copy; the values there.
-pub struct Tally {
-    pub current: [u64; 16],
-    pub kept: [u64; 4],
-    pub copies: u64,
+// The current or the kept places: 8 bits a count, the lowest of all copies, the others of the codes 1 to 7; the values of the copies.
+pub struct Side {
+    pub counts: u64,
     pub values: Values,
-    pub keeps: Values,
 }
 
-// What a node holds of an item.
-fn held_at(table: &[u64], g: Geometry, node: u8, item: u16) -> Held
-    ensures { λ r. ⌜ Looked (view g (now (table .entry)) .entry node item) r ⌝ }
+// Both places of an item.
+pub struct Tally {
+    pub current: Side,
+    pub kept: Side,
+}
+
+// What a copy adds to the counts, by its code.
+const WEIGHTS: [u64; 16] = [
+    0,
+    0x101,
+    0x1_0001,
+    0x100_0001,
+    0x1_0000_0001,
+    0x100_0000_0001,
+    0x1_0000_0000_0001,
+    0x100_0000_0000_0001,
+    1,
+    1,
+    1,
+    1,
+    1,
+    1,
+    1,
+    1,
+];
+
+// One copy more.
+fn with_copy(s: Side, code: u8, value: u64) -> Side
+    requires { ⌜ Room s code ⌝ }
+    ensures { λ r. ⌜ r ≡ withCopy s code value ⌝ }
 {
-    let state = stores::state_at(table, g, node, item);
-    let current = words::current_of(state);
-    let kept = words::kept_of(state);
+    let counts = s.counts + WEIGHTS[code as usize];
+    let values = s.values;
+    let values = values.met(true, value);
+    Side { counts, values }
+}
+
+// A live node's current place more. The value is read only of a copy.
+fn current_met(table: &[u64], g: Geometry, item: u16, node: u8, code: u8, s: Side) -> Side
+    requires { ⌜ Room s code ⌝ }
+    ensures { λ r. ⌜ r ≡ sideMet s code (view g (now (table .entry)) .entry node item .value) ⌝ }
+{
+    if code == 0 {
+        return s;
+    }
     let value = stores::value_at(table, g, node, item);
-    let kept_value = stores::kept_value_at(table, g, node, item);
-    Held {
-        current,
-        kept,
-        value,
-        kept_value,
-    }
+    with_copy(s, code, value)
 }
 
-// 1 for a test that holds, 0 for one that does not.
-fn one(test: bool) -> u64
-    ensures { λ r. ⌜ Counted test r ⌝ }
+// A live node's kept place more. The value is read only of a copy.
+fn kept_met(table: &[u64], g: Geometry, item: u16, node: u8, code: u8, s: Side) -> Side
+    requires { ⌜ Room s code ⌝ }
+    ensures { λ r. ⌜ r ≡ sideMet s code (view g (now (table .entry)) .entry node item .keptValue) ⌝ }
 {
-    if test { 1 } else { 0 }
-}
-
-// The tally with the entry of one live node more.
-fn entered(t: Tally, held: Held) -> Tally
-    requires { ⌜ Roomy t held ⌝ }
-    ensures { λ r. ⌜ Entered t held r ⌝ }
-{
-    let c = held.current as usize;
-    let k = held.kept as usize;
-    let mut current = t.current;
-    current[c] = current[c] + 1;
-    let mut kept = t.kept;
-    kept[k] = kept[k] + 1;
-    let copies = t.copies + one(c != 0);
-    let values = t.values;
-    let keeps = t.keeps;
-    let values = values.met(c != 0, held.value);
-    let keeps = keeps.met(k != 0, held.kept_value);
-    Tally {
-        current,
-        kept,
-        copies,
-        values,
-        keeps,
+    if code == 0 {
+        return s;
     }
+    let value = stores::kept_value_at(table, g, node, item);
+    with_copy(s, code, value)
 }
 
 // The tally with one node more; of a dead one nothing else is read.
 fn tally_node(table: &[u64], g: Geometry, item: u16, node: u8, t: Tally) -> Tally
-    requires { ⌜ Tallied (view g (now table)) item node t ⌝ }
+    requires { ⌜ (node < 255) × Tallied (view g (now table)) item node t ⌝ }
     ensures { λ r. ⌜ Tallied (view g (now (table .entry))) item (node + 1) r ⌝ }
 {
     let mark = stores::mark_at(table, g, node);
     if mark == 0 {
         return t;
     }
-    let held = held_at(table, g, node, item);
-    entered(t, held)
+    let state = stores::state_at(table, g, node, item);
+    let code = words::current_of(state);
+    let kept_code = words::kept_of(state);
+    let current = current_met(table, g, item, node, code, t.current);
+    let kept = kept_met(table, g, item, node, kept_code, t.kept);
+    Tally { current, kept }
 }
 
 // The tally of an item over all nodes.
@@ -95,13 +99,12 @@ pub fn tally_item(table: &[u64], g: Geometry, item: u16) -> Tally
     let nodes = g.nodes;
     let values = Values::none();
     let keeps = Values::none();
-    let mut t = Tally {
-        current: [0; 16],
-        kept: [0; 4],
-        copies: 0,
-        values,
-        keeps,
+    let current = Side { counts: 0, values };
+    let kept = Side {
+        counts: 0,
+        values: keeps,
     };
+    let mut t = Tally { current, kept };
     let mut node: u8 = 0;
     while node < nodes {
         t = tally_node(table, g, item, node, t);

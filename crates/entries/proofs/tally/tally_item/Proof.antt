@@ -1,5 +1,6 @@
 -- `tally::tally_item` meets its contract: the loop has tallied the nodes before `node`. Assumes nothing.
 use Prim.Native.Nat.{_≤_, _-_}
+use native.Mathlib.Omega.{arith}
 use borrow.Author.Needs.{needs}
 use Rattle.table.specs.View.{view}
 use Rattle.entries.specs.Tally.{Tallied}
@@ -22,7 +23,7 @@ tally-item-spec =
     (λ c κs. search needs)
     (λ c κs. search needs)
     (λ c. (search needs, simp (c .none2 .ensures, c .before .none .ensures) (tallied-none _ _)))
-    (λ c κs. c .before .loop .inv .1)
+    (λ c κs. (omega (arith, c .loop-test .taken), c .before .loop .inv .1))
     (λ c. search needs)
     (λ c. search needs)
     (λ c. (search needs, c .tally-node .ensures))

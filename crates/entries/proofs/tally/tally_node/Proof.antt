@@ -1,8 +1,9 @@
 -- `tally::tally_node` meets its contract: one node more, dead or live. Assumes nothing.
-use mathlib.Core.Path.{sym, _∙_}
+use mathlib.Core.Path.{sym, ap, _∙_}
 use native.Mathlib.Omega.{arith}
 use borrow.Author.Needs.{needs}
-use Rattle.entries.specs.TallyLoop.{tallied-dead, roomy, tallied-live}
+use Rattle.table.specs.Words.{currentOf, keptOf}
+use Rattle.entries.specs.TallyLoop.{tallied-dead, current-room, kept-room, tallied-live}
 use Rattle.entries.proofs.tally.tally_node.Statement.{statement}
 use Rattle.entries.proofs.tally.tally_node.Tie as tie
 
@@ -11,9 +12,28 @@ tally-node-spec =
     tie.close
     (tie.spec
     (λ c κs. search needs)
-    (λ c. let s = c .before .before .before in tallied-dead _ _ _ _ (s .pre) (sym (c .before .mark-at .ensures) ∙ c .if1 .taken))
+    (λ c. let s = c .before .before .before in tallied-dead _ _ _ _ (s .pre .1) (sym (c .before .mark-at .ensures) ∙ c .if1 .taken))
     (λ c κs. search needs)
-    (λ c κs. let s = c .before .before .before .before in roomy _ _ _ _ (s .pre) _ (c .held-at .ensures) (omega arith))
+    (λ c κs. search needs)
+    (λ c κs. search needs)
+    (λ c κs.
+    let m = c .before in
+    let w = m .before in
+    let s = w .before .before .before .before in
+    current-room _ _ _ _ (s .pre .1) _ _ (m .current-of .ensures ∙ ap currentOf (w .state-at .ensures)) (c .kept-of .ensures ∙ ap keptOf (w .state-at .ensures)) (s .pre .0)
+    (omega (arith, m .current-of .ensures)))
+    (λ c κs.
+    let k = c .before in
+    let m = k .before in
+    let w = m .before in
+    let s = w .before .before .before .before in
+    kept-room _ _ _ _ (s .pre .1) _ _ (m .current-of .ensures ∙ ap currentOf (w .state-at .ensures)) (k .kept-of .ensures ∙ ap keptOf (w .state-at .ensures)) (s .pre .0)
+    (omega (arith, k .kept-of .ensures)))
     (λ c.
-    let s = c .before .before .before .before .before in
-    tallied-live _ _ _ _ (s .pre) _ (c .before .held-at .ensures) (λ d. c .before .before .if1 .left (c .before .before .before .mark-at .ensures ∙ d)) _ (c .entered .ensures)))
+    let k = c .before .before in
+    let m = k .before in
+    let w = m .before in
+    let s = w .before .before .before .before in
+    tallied-live _ _ _ _ (s .pre .1) _ _ (m .current-of .ensures ∙ ap currentOf (w .state-at .ensures)) (k .kept-of .ensures ∙ ap keptOf (w .state-at .ensures))
+    (λ d. w .before .if1 .left (w .before .before .mark-at .ensures ∙ d)) (omega (arith, m .current-of .ensures)) (omega (arith, k .kept-of .ensures))
+    (c .before .current-met .ensures) (c .kept-met .ensures)))
