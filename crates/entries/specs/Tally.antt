@@ -1,12 +1,10 @@
 -- What is counted of one item over the live nodes; and the code's tally of it.
 use mathlib.Core.Path.{_≡_}
 use mathlib.Core.Bool.{Bool, not, cond, _&&_}
-use mathlib.Core.List.{List, [], _∷_}
 use Prim.Native.Nat.{ℕ, _+_, _*_, _/_, _%_, _^_, _<_}
 use lib.Dec.{eqb}
-use lib.ListN.{getD}
 use Rattle.table.specs.View.{View, live, current, kept}
-use Rattle.counting.specs.Counting.{count}
+use Rattle.counting.specs.Counting.{count, one}
 use Rattle.counting.specs.Values.{metOf, valuesOf}
 use Rattle.counting.specs.declared.values.Values.{Values}
 use Rattle.entries.specs.declared.tally.Tally.{Tally}
@@ -45,41 +43,26 @@ countsOf v b n = record {
 
 -- ---- the tally of the code: a side for the current places and one for the kept places
 
--- what a copy at a code adds to the counts of a side, 8 bits a count: a 1 in the lowest for any copy, a 1 in that of its code, 1 to 7
-abbrev pub weights : List ℕ
-weights =
-    0
-    ∷ 0x101
-    ∷ 0x10001
-    ∷ 0x1000001
-    ∷ 0x100000001
-    ∷ 0x10000000001
-    ∷ 0x1000000000001
-    ∷ 0x100000000000001
-    ∷ 1
-    ∷ 1
-    ∷ 1
-    ∷ 1
-    ∷ 1
-    ∷ 1
-    ∷ 1
-    ∷ 1
-    ∷ []
+-- what an entry adds to the counts of a side, 8 bits a count: a 1 in the lowest for any copy, a 1 in that of its code, 1 to 7
+unfoldable pub weightOf : ℕ → ℕ
+weightOf code =
+    one (not (eqb code 0))
+    + one (eqb code 1) * 2 ^ 8
+    + one (eqb code 2) * 2 ^ 16
+    + one (eqb code 3) * 2 ^ 24
+    + one (eqb code 4) * 2 ^ 32
+    + one (eqb code 5) * 2 ^ 40
+    + one (eqb code 6) * 2 ^ 48
+    + one (eqb code 7) * 2 ^ 56
 
-abbrev pub weightOf : ℕ → ℕ
-weightOf code = getD weights code 0
+-- the values that a side has met
+abbrev pub valuesIn : Side → Values
+valuesIn s = record { seen = not (eqb (s .counts) 0); first = s .first; equal = eqb (s .unequal) 0 }
 
--- one copy more, and one entry more, which is a copy unless its code is 0
-abbrev pub withCopy : Side → ℕ → ℕ → Side
-withCopy s code x = record { counts = s .counts + weightOf code; values = metOf (s .values) x }
-
-unfoldable pub sideMet : Side → ℕ → ℕ → Side
-sideMet s code x = cond (eqb code 0) s (withCopy s code x)
-
--- a code has a weight, and there is room for it
-pub record Room (s : Side) (code : ℕ) : Type 0 where
-  pub low : code < 16
-  pub room : s .counts + weightOf code < 2 ^ 64
+-- one entry more: its code and its value
+pub record Met (s : Side) (code x : ℕ) (r : Side) : Type 0 where
+  pub counts : r .counts ≡ s .counts + weightOf code
+  pub values : valuesIn r ≡ cond (not (eqb code 0)) (metOf (valuesIn s) x) (valuesIn s)
 
 -- the counts as functions of the code
 abbrev pub tallied : Tally → Counts
@@ -87,8 +70,8 @@ tallied t = record {
   current = λ code. t .current .counts / 2 ^ (8 * code) % 256;
   kept = λ code. t .kept .counts / 2 ^ (8 * code) % 256;
   copies = t .current .counts % 256;
-  values = t .current .values;
-  keeps = t .kept .values;
+  values = valuesIn (t .current);
+  keeps = valuesIn (t .kept);
 }
 
 -- of the nodes below n that are live: how many have a copy, and how many each of the codes 1 to 7
@@ -106,7 +89,7 @@ packed lives code n =
 -- a side has counted the codes and met the values of the live nodes below n
 pub record Sided (lives : ℕ → Bool) (code value : ℕ → ℕ) (n : ℕ) (s : Side) : Type 0 where
   pub counts : s .counts ≡ packed lives code n
-  pub values : s .values ≡ valuesOf n (λ m. lives m && not (eqb (code m) 0)) value
+  pub values : valuesIn s ≡ valuesOf n (λ m. lives m && not (eqb (code m) 0)) value
 
 -- the tally has counted item b over the live nodes below n
 pub record Tallied (v : View) (b n : ℕ) (t : Tally) : Type 0 where

@@ -1,61 +1,70 @@
 -- How the code's tally grows by a node, and what its counts are at the end.
 use mathlib.Core.Path.{_≡_, refl, sym, ap, _∙_}
-use mathlib.Core.Bool.{Bool, true, false, not, _&&_}
+use mathlib.Core.Bool.{Bool, true, false, not, cond, _&&_}
 use Prim.Native.Nat.{ℕ, _+_, _*_, _/_, _%_, _^_, _<_, _≤_}
 use native.Mathlib.Omega.{arith}
-use lib.Dec.{eqb, leb}
-use borrow.Author.Tests.{eqb-true, leb-true, eq-eqb, ne-eqb}
+use lib.Dec.{eqb}
+use borrow.Author.Tests.{ eq-eqb, ne-eqb}
 use Rattle.counting.specs.Tests.{by-cases}
-use Rattle.counting.specs.Counting.{every, every-at, count, one, count-none, count-next, count-le}
-use Rattle.counting.specs.Values.{noValues, valuesOf, values-none, values-next}
+use Rattle.counting.specs.Counting.{count, one, count-none, count-next, count-le}
+use Rattle.counting.specs.Values.{metOf, valuesOf, values-none, values-next}
 use Rattle.table.specs.View.{View, live, current, kept}
-use Rattle.entries.specs.Tally.{weightOf, withCopy, sideMet, Room, tallied, packed, Sided, Tallied, countsOf}
+use Rattle.entries.specs.Tally.{weightOf, Met, tallied, packed, Sided, Tallied, countsOf}
 use Rattle.entries.specs.Items.{itemTest}
 use Rattle.entries.specs.declared.tally.Side.{Side}
 use Rattle.entries.specs.declared.tally.Tally.{Tally}
 
--- ---- the weight of a code, by the tests
+-- ---- the weight of a code: one of 1 to 7, or above
 
-abbrev tested : ℕ → ℕ
-tested c =
-    one (not (eqb c 0))
-    + one (eqb c 1) * 2 ^ 8
-    + one (eqb c 2) * 2 ^ 16
-    + one (eqb c 3) * 2 ^ 24
-    + one (eqb c 4) * 2 ^ 32
-    + one (eqb c 5) * 2 ^ 40
-    + one (eqb c 6) * 2 ^ 48
-    + one (eqb c 7) * 2 ^ 56
+weight-some : (c : ℕ) → 0 < c → 1 ≤ weightOf c
+unfolding weightOf
+weight-some c h = omega (arith, ap (λ x. one (not x)) (ne-eqb c 0 (λ e. omega arith)))
 
-abbrev weightRule : ℕ → Bool
-weightRule c = eqb (weightOf c) (tested c)
+pub weight-above :
+    (c : ℕ) → (c ≡ 0 → ⊥) → (c ≡ 1 → ⊥) → (c ≡ 2 → ⊥) → (c ≡ 3 → ⊥) → (c ≡ 4 → ⊥) → (c ≡ 5 → ⊥) → (c ≡ 6 → ⊥) → (c ≡ 7 → ⊥)
+    → 1 ≡ weightOf c
+unfolding weightOf
+weight-above c d0 d1 d2 d3 d4 d5 d6 d7 =
+    rw (ne-eqb c 0 d0, ne-eqb c 1 d1, ne-eqb c 2 d2, ne-eqb c 3 d3, ne-eqb c 4 d4, ne-eqb c 5 d5, ne-eqb c 6 d6, ne-eqb c 7 d7) refl
 
-weight-tested : (c : ℕ) → c < 16 → weightOf c ≡ tested c
-unfolding every
-weight-tested c h = eqb-true _ _ (every-at 16 weightRule refl c h)
-
-abbrev smallRule : ℕ → Bool
-smallRule c = leb (weightOf c) 0x100000000000001
-
-weight-small : (c : ℕ) → c < 16 → weightOf c ≤ 0x100000000000001
-unfolding every
-weight-small c h = leb-true _ _ (every-at 16 smallRule refl c h)
-
--- ---- an entry met: no copy, a copy
+-- ---- an entry met: no copy, the first copy, an equal one, one that differs
 
 module _ (s : Side) (code x : ℕ) where
-  pub side-same : code ≡ 0 → s ≡ sideMet s code x
-  unfolding sideMet
-  side-same e = rw (eq-eqb code 0 e) refl
+  pub met-none : code ≡ 0 → Met s code x s
+  unfolding weightOf
+  met-none e = rw e record { counts = omega arith; values = refl }
 
-  pub side-more : (code ≡ 0 → ⊥) → {r : Side} {y : ℕ} → y ≡ x → r ≡ withCopy s code y → r ≡ sideMet s code x
-  unfolding sideMet
-  side-more d e k = rw (ne-eqb code 0 d, ← e) k
+  module _ (h : 0 < code) (counts : ℕ) (a : counts ≡ s .counts + weightOf code) where
+    copied : not (eqb code 0) ≡ true
+    copied = ap not (ne-eqb code 0 (λ e. omega arith))
+
+    some : not (eqb counts 0) ≡ true
+    some = ap not (ne-eqb counts 0 (λ e. omega (arith, weight-some code h)))
+
+    pub met-first : s .counts ≡ 0 → Met s code x (record { counts = counts; first = x; unequal = s .unequal })
+    met-first e = record { counts = a; values = rw (copied, some, eq-eqb (s .counts) 0 e) refl }
+
+    module _ (d : s .counts ≡ 0 → ⊥) where
+      pub met-equal : x ≡ s .first → Met s code x (record { counts = counts; first = s .first; unequal = s .unequal })
+      met-equal e = record {
+        counts = a;
+        values = by-cases (eqb (s .unequal) 0)
+            (λ u. rw (copied, some, ne-eqb (s .counts) 0 d, eq-eqb x (s .first) e, u) refl)
+            (λ u. rw (copied, some, ne-eqb (s .counts) 0 d, u) refl);
+      }
+
+      pub met-unequal : (x ≡ s .first → ⊥) → Met s code x (record { counts = counts; first = s .first; unequal = 1 })
+      met-unequal e = record {
+        counts = a;
+        values = by-cases (eqb (s .unequal) 0)
+            (λ u. rw (copied, some, ne-eqb (s .counts) 0 d, ne-eqb x (s .first) e, u) refl)
+            (λ u. rw (copied, some, ne-eqb (s .counts) 0 d, u) refl);
+      }
 
 -- ---- a side: no node yet, a dead one more, a live one more
 
 module _ (lives : ℕ → Bool) (code value : ℕ → ℕ) where
-  pub sided-none : Sided lives code value 0 (record { counts = 0; values = noValues })
+  pub sided-none : Sided lives code value 0 (record { counts = 0; first = 0; unequal = 0 })
   unfolding packed count
   sided-none = record { counts = refl; values = values-none _ _ }
 
@@ -65,6 +74,20 @@ module _ (lives : ℕ → Bool) (code value : ℕ → ℕ) where
 
   abbrev any : ℕ → Bool
   any m = lives m && not (eqb (code m) 0)
+
+  packed-small : (n : ℕ) → packed lives code n ≤ n * 0x101010101010101
+  unfolding packed
+  packed-small n = omega (
+    arith,
+    count-le n any,
+    count-le n (at 1),
+    count-le n (at 2),
+    count-le n (at 3),
+    count-le n (at 4),
+    count-le n (at 5),
+    count-le n (at 6),
+    count-le n (at 7),
+  )
 
   module _ (n : ℕ) where
     packed-next :
@@ -94,22 +117,9 @@ module _ (lives : ℕ → Bool) (code value : ℕ → ℕ) where
     packed-dead : lives n ≡ false → packed lives code (n + 1) ≡ packed lives code n
     packed-dead l = packed-next ∙ rw l (omega arith)
 
-    packed-live : lives n ≡ true → code n < 16 → packed lives code (n + 1) ≡ packed lives code n + weightOf (code n)
-    packed-live l h = packed-next ∙ rw l (ap (λ x. packed lives code n + x) (sym (weight-tested (code n) h)))
-
-    packed-small : packed lives code n ≤ n * 0x101010101010101
-    unfolding packed
-    packed-small = omega (
-      arith,
-      count-le n any,
-      count-le n (at 1),
-      count-le n (at 2),
-      count-le n (at 3),
-      count-le n (at 4),
-      count-le n (at 5),
-      count-le n (at 6),
-      count-le n (at 7),
-    )
+    packed-live : lives n ≡ true → packed lives code (n + 1) ≡ packed lives code n + weightOf (code n)
+    unfolding weightOf
+    packed-live l = packed-next ∙ rw l refl
 
     module _ (s : Side) (k : Sided lives code value n s) where
       pub sided-dead : lives n ≡ false → Sided lives code value (n + 1) s
@@ -118,21 +128,17 @@ module _ (lives : ℕ → Bool) (code value : ℕ → ℕ) where
         values = k .values ∙ sym (values-next n any value ∙ rw l refl);
       }
 
-      pub sided-live : lives n ≡ true → code n < 16 → Sided lives code value (n + 1) (sideMet s (code n) (value n))
-      unfolding sideMet
-      sided-live l h = by-cases (eqb (code n) 0)
-          (λ e. rw e record {
-            counts = k .counts ∙ omega (arith, packed-live l h, ap weightOf (eqb-true (code n) 0 e));
-            values = k .values ∙ sym (values-next n any value ∙ rw (l, e) refl);
-          })
-          (λ e. rw e record {
-            counts = omega (arith, k .counts, packed-live l h);
-            values = rw (values-next n any value, l, e, k .values) refl;
-          })
+      pub sided-live : lives n ≡ true → {r : Side} → Met s (code n) (value n) r → Sided lives code value (n + 1) r
+      sided-live l m = record {
+        counts = omega (arith, m .counts, k .counts, packed-live l);
+        values = m .values
+            ∙ ap (λ w. cond (not (eqb (code n) 0)) (metOf w (value n)) w) (k .values)
+            ∙ sym (values-next n any value ∙ rw l refl);
+      }
 
       -- 255 nodes at most: no count runs over into the next
-      pub sided-room : n < 255 → code n < 16 → Room s (code n)
-      sided-room g h = record { low = h; room = omega (arith, k .counts, packed-small, weight-small (code n) h) }
+      pub sided-room : lives n ≡ true → n < 255 → s .counts + weightOf (code n) < 2 ^ 64
+      sided-room l g = omega (arith, k .counts, packed-live l, packed-small (n + 1))
 
 -- ---- each count from the counts of a side
 
@@ -202,7 +208,9 @@ module _ (lives : ℕ → Bool) (code value : ℕ → ℕ) (n : ℕ) (small : n 
 
 -- ---- the tally: no node yet, a dead one more, a live one more, all
 
-pub tallied-none : (v : View) (b : ℕ) → Tallied v b 0 (record { current = record { counts = 0; values = noValues }; kept = record { counts = 0; values = noValues } })
+pub tallied-none :
+    (v : View) (b : ℕ)
+    → Tallied v b 0 (record { current = record { counts = 0; first = 0; unequal = 0 }; kept = record { counts = 0; first = 0; unequal = 0 } })
 tallied-none v b = record { current = sided-none _ _ _; kept = sided-none _ _ _ }
 
 module _ (v : View) (b n : ℕ) (t : Tally) (s : Tallied v b n t) where
@@ -211,24 +219,21 @@ module _ (v : View) (b n : ℕ) (t : Tally) (s : Tallied v b n t) where
       let l : live v n ≡ false = ap not (eq-eqb (v .mark n) 0 d) in
       record { current = sided-dead _ _ _ n _ (s .current) l; kept = sided-dead _ _ _ n _ (s .kept) l }
 
-  -- the codes of an entry that code found
-  module _ (c k : ℕ) (e : c ≡ current (v .entry n b)) (f : k ≡ kept (v .entry n b)) where
-    pub current-room : n < 255 → c < 16 → Room (t .current) c
-    current-room g h = rw e (sided-room _ _ _ n _ (s .current) g (rw e at h))
+  -- a live node, and the codes of its entry
+  module _ (d : v .mark n ≡ 0 → ⊥) (c k : ℕ) (e : c ≡ current (v .entry n b)) (f : k ≡ kept (v .entry n b)) where
+    lives : live v n ≡ true
+    lives = ap not (ne-eqb (v .mark n) 0 d)
 
-    pub kept-room : n < 255 → k < 16 → Room (t .kept) k
-    kept-room g h = rw f (sided-room _ _ _ n _ (s .kept) g (rw f at h))
+    pub current-room : n < 255 → t .current .counts + weightOf c < 2 ^ 64
+    current-room g = rw e (sided-room _ _ _ n _ (s .current) lives g)
+
+    pub kept-room : n < 255 → t .kept .counts + weightOf k < 2 ^ 64
+    kept-room g = rw f (sided-room _ _ _ n _ (s .kept) lives g)
 
     pub tallied-live :
-        (v .mark n ≡ 0 → ⊥) → c < 16 → k < 16 → {x y : Side}
-        → x ≡ sideMet (t .current) c (v .entry n b .value) → y ≡ sideMet (t .kept) k (v .entry n b .keptValue)
+        {x y : Side} → Met (t .current) c (v .entry n b .value) x → Met (t .kept) k (v .entry n b .keptValue) y
         → Tallied v b (n + 1) (record { current = x; kept = y })
-    tallied-live d g h {x} {y} p q =
-        let l : live v n ≡ true = ap not (ne-eqb (v .mark n) 0 d) in
-        record {
-          current = rw (p, e) (sided-live _ _ _ n _ (s .current) l (rw e at g));
-          kept = rw (q, f) (sided-live _ _ _ n _ (s .kept) l (rw f at h));
-        }
+    tallied-live p q = record { current = sided-live _ _ _ n _ (s .current) lives (rw e at p); kept = sided-live _ _ _ n _ (s .kept) lives (rw f at q) }
 
 pub tallied-all : (v : View) (b n m : ℕ) (t : Tally) → Tallied v b n t → n ≤ m → m ≤ n → Tallied v b m t
 tallied-all v b n m t s h g = let e : n ≡ m = omega arith in rw e at s
@@ -249,6 +254,7 @@ test-tallied v b n t s h phase =
       field-any _ _ _ n h _ (s .current),
       field-at-1 _ _ _ n h _ (s .kept),
       field-at-2 _ _ _ n h _ (s .kept),
-      s .current .values,
-      s .kept .values,
+      ap (λ w. w .equal) (s .current .values),
+      ap (λ w. w .seen) (s .kept .values),
+      ap (λ w. w .equal) (s .kept .values),
     ) refl

@@ -34,7 +34,7 @@ fn clean(t: Tally) -> bool
     let c = t.current.counts;
     (c / SHARED_CK1 % 256 == 1)
         & ((c / SHARED_CK2 % 256 == 1)
-            & ((c % 256 == 2 + c / SHARED % 256) & (t.current.values.equal & !t.kept.values.seen)))
+            & ((c % 256 == 2 + c / SHARED % 256) & ((t.current.unequal == 0) & !(t.kept.counts != 0))))
 }
 
 // One Modified and no other current copy, or one Owner with any number of Shared.
@@ -51,14 +51,14 @@ fn saved(t: Tally) -> bool
     ensures { λ r. ⌜ r ≡ isSaved (tallied t) ⌝ }
 {
     let k = t.kept.counts;
-    (k / INV_CK1 % 256 == 1) & ((k / INV_CK2 % 256 == 1) & t.kept.values.equal)
+    (k / INV_CK1 % 256 == 1) & ((k / INV_CK2 % 256 == 1) & (t.kept.unequal == 0))
 }
 
 // Dirty: owned, values equal, and saved.
 fn dirty(t: Tally) -> bool
     ensures { λ r. ⌜ r ≡ isDirty (tallied t) ⌝ }
 {
-    owned(t) & (t.current.values.equal & saved(t))
+    owned(t) & ((t.current.unequal == 0) & saved(t))
 }
 
 // Created: as dirty with Precommit1 and Precommit2 in the Owner's stead.
@@ -68,7 +68,7 @@ fn created(t: Tally) -> bool
     let c = t.current.counts;
     (c / PRECOMMIT1 % 256 == 1)
         & ((c / PRECOMMIT2 % 256 == 1)
-            & ((c % 256 == 2 + c / SHARED % 256) & (t.current.values.equal & saved(t))))
+            & ((c % 256 == 2 + c / SHARED % 256) & ((t.current.unequal == 0) & saved(t))))
 }
 
 // Whether an item is clean, dirty, or, in phase 1 only, created.

@@ -1,17 +1,17 @@
 // What is counted of one item over the live nodes: places by their code, and values that should be equal.
-ghost use Prim.Native.Nat.{_+_, _<_};
+ghost use Prim.Native.Nat.{_+_, _^_, _<_};
 ghost use mathlib.Core.Path.{_≡_};
 ghost use Rattle.table.specs.View.{view};
-ghost use Rattle.entries.specs.Tally.{Room, withCopy, sideMet, Tallied};
-use counting::values::Values;
+ghost use Rattle.entries.specs.Tally.{weightOf, Met, Tallied};
 use table::geometry::Geometry;
 use table::stores;
 use table::words;
 
-// The current or the kept places: 8 bits a count, the lowest of all copies, the others of the codes 1 to 7; the values of the copies.
+// The current or the kept places: 8 bits a count, the lowest of all copies, the others of the codes 1 to 7; the first copy's value; 1 if another differs.
 pub struct Side {
     pub counts: u64,
-    pub values: Values,
+    pub first: u64,
+    pub unequal: u64,
 }
 
 // Both places of an item.
@@ -20,41 +20,55 @@ pub struct Tally {
     pub kept: Side,
 }
 
-// What a copy adds to the counts, by its code.
-const WEIGHTS: [u64; 16] = [
-    0,
-    0x101,
-    0x1_0001,
-    0x100_0001,
-    0x1_0000_0001,
-    0x100_0000_0001,
-    0x1_0000_0000_0001,
-    0x100_0000_0000_0001,
-    1,
-    1,
-    1,
-    1,
-    1,
-    1,
-    1,
-    1,
-];
+// What an entry adds to the counts, by its code.
+fn weight(code: u8) -> u64
+    ensures { λ r. ⌜ r ≡ weightOf code ⌝ }
+{
+    match code {
+        0 => 0,
+        1 => 0x101,
+        2 => 0x1_0001,
+        3 => 0x100_0001,
+        4 => 0x1_0000_0001,
+        5 => 0x100_0000_0001,
+        6 => 0x1_0000_0000_0001,
+        7 => 0x100_0000_0000_0001,
+        _ => 1,
+    }
+}
 
 // One copy more.
 fn with_copy(s: Side, code: u8, value: u64) -> Side
-    requires { ⌜ Room s code ⌝ }
-    ensures { λ r. ⌜ r ≡ withCopy s code value ⌝ }
+    requires { ⌜ (0 < code) × (s .counts + weightOf code < 2 ^ 64) ⌝ }
+    ensures { λ r. ⌜ Met s code value r ⌝ }
 {
-    let counts = s.counts + WEIGHTS[code as usize];
-    let values = s.values;
-    let values = values.met(true, value);
-    Side { counts, values }
+    let added = weight(code);
+    let counts = s.counts + added;
+    if s.counts == 0 {
+        return Side {
+            counts,
+            first: value,
+            unequal: s.unequal,
+        };
+    }
+    if value == s.first {
+        return Side {
+            counts,
+            first: s.first,
+            unequal: s.unequal,
+        };
+    }
+    Side {
+        counts,
+        first: s.first,
+        unequal: 1,
+    }
 }
 
 // A live node's current place more. The value is read only of a copy.
 fn current_met(table: &[u64], g: Geometry, item: u16, node: u8, code: u8, s: Side) -> Side
-    requires { ⌜ Room s code ⌝ }
-    ensures { λ r. ⌜ r ≡ sideMet s code (view g (now (table .entry)) .entry node item .value) ⌝ }
+    requires { ⌜ s .counts + weightOf code < 2 ^ 64 ⌝ }
+    ensures { λ r. ⌜ Met s code (view g (now (table .entry)) .entry node item .value) r ⌝ }
 {
     if code == 0 {
         return s;
@@ -65,8 +79,8 @@ fn current_met(table: &[u64], g: Geometry, item: u16, node: u8, code: u8, s: Sid
 
 // A live node's kept place more. The value is read only of a copy.
 fn kept_met(table: &[u64], g: Geometry, item: u16, node: u8, code: u8, s: Side) -> Side
-    requires { ⌜ Room s code ⌝ }
-    ensures { λ r. ⌜ r ≡ sideMet s code (view g (now (table .entry)) .entry node item .keptValue) ⌝ }
+    requires { ⌜ s .counts + weightOf code < 2 ^ 64 ⌝ }
+    ensures { λ r. ⌜ Met s code (view g (now (table .entry)) .entry node item .keptValue) r ⌝ }
 {
     if code == 0 {
         return s;
@@ -97,14 +111,15 @@ pub fn tally_item(table: &[u64], g: Geometry, item: u16) -> Tally
     ensures { λ r. ⌜ Tallied (view g (now (table .entry))) item (g .nodes) r ⌝ }
 {
     let nodes = g.nodes;
-    let values = Values::none();
-    let keeps = Values::none();
-    let current = Side { counts: 0, values };
-    let kept = Side {
+    let none = Side {
         counts: 0,
-        values: keeps,
+        first: 0,
+        unequal: 0,
     };
-    let mut t = Tally { current, kept };
+    let mut t = Tally {
+        current: none,
+        kept: none,
+    };
     let mut node: u8 = 0;
     while node < nodes {
         t = tally_node(table, g, item, node, t);

@@ -20,9 +20,7 @@ tally-item-spec =
     (tie.spec
     Inv-loop
     μ-loop
-    (λ c κs. search needs)
-    (λ c κs. search needs)
-    (λ c. (search needs, simp (c .none2 .ensures, c .before .none .ensures) (tallied-none _ _)))
+    (λ c. (search needs, tallied-none _ _))
     (λ c κs. (omega (arith, c .loop-test .taken), c .before .loop .inv .1))
     (λ c. search needs)
     (λ c. search needs)

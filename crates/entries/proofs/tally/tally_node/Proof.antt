@@ -1,6 +1,5 @@
 -- `tally::tally_node` meets its contract: one node more, dead or live. Assumes nothing.
 use mathlib.Core.Path.{sym, ap, _∙_}
-use native.Mathlib.Omega.{arith}
 use borrow.Author.Needs.{needs}
 use Rattle.table.specs.Words.{currentOf, keptOf}
 use Rattle.entries.specs.TallyLoop.{tallied-dead, current-room, kept-room, tallied-live}
@@ -19,21 +18,24 @@ tally-node-spec =
     (λ c κs.
     let m = c .before in
     let w = m .before in
-    let s = w .before .before .before .before in
-    current-room _ _ _ _ (s .pre .1) _ _ (m .current-of .ensures ∙ ap currentOf (w .state-at .ensures)) (c .kept-of .ensures ∙ ap keptOf (w .state-at .ensures)) (s .pre .0)
-    (omega (arith, m .current-of .ensures)))
+    let l = w .before in
+    let s = l .before .before .before in
+    current-room _ _ _ _ (s .pre .1) (λ d. l .if1 .left (l .before .mark-at .ensures ∙ d)) _ _
+    (m .current-of .ensures ∙ ap currentOf (w .state-at .ensures)) (c .kept-of .ensures ∙ ap keptOf (w .state-at .ensures)) (s .pre .0))
     (λ c κs.
     let k = c .before in
     let m = k .before in
     let w = m .before in
-    let s = w .before .before .before .before in
-    kept-room _ _ _ _ (s .pre .1) _ _ (m .current-of .ensures ∙ ap currentOf (w .state-at .ensures)) (k .kept-of .ensures ∙ ap keptOf (w .state-at .ensures)) (s .pre .0)
-    (omega (arith, k .kept-of .ensures)))
+    let l = w .before in
+    let s = l .before .before .before in
+    kept-room _ _ _ _ (s .pre .1) (λ d. l .if1 .left (l .before .mark-at .ensures ∙ d)) _ _
+    (m .current-of .ensures ∙ ap currentOf (w .state-at .ensures)) (k .kept-of .ensures ∙ ap keptOf (w .state-at .ensures)) (s .pre .0))
     (λ c.
     let k = c .before .before in
     let m = k .before in
     let w = m .before in
-    let s = w .before .before .before .before in
-    tallied-live _ _ _ _ (s .pre .1) _ _ (m .current-of .ensures ∙ ap currentOf (w .state-at .ensures)) (k .kept-of .ensures ∙ ap keptOf (w .state-at .ensures))
-    (λ d. w .before .if1 .left (w .before .before .mark-at .ensures ∙ d)) (omega (arith, m .current-of .ensures)) (omega (arith, k .kept-of .ensures))
+    let l = w .before in
+    let s = l .before .before .before in
+    tallied-live _ _ _ _ (s .pre .1) (λ d. l .if1 .left (l .before .mark-at .ensures ∙ d)) _ _
+    (m .current-of .ensures ∙ ap currentOf (w .state-at .ensures)) (k .kept-of .ensures ∙ ap keptOf (w .state-at .ensures))
     (c .before .current-met .ensures) (c .kept-met .ensures)))
