@@ -1,7 +1,7 @@
 -- What is counted of one item over the live nodes; and the code's tally of it.
 use mathlib.Core.Path.{_≡_}
 use mathlib.Core.Bool.{Bool, not, cond, _&&_}
-use Prim.Native.Nat.{ℕ, _+_, _*_, _/_, _%_, _^_, _<_}
+use Prim.Native.Nat.{ℕ, _+_, _*_, _/_, _%_, _^_}
 use lib.Dec.{eqb}
 use Rattle.table.specs.View.{View, live, current, kept}
 use Rattle.counting.specs.Counting.{count, one}

@@ -1,16 +1,17 @@
 -- How the code's tally grows by a node, and what its counts are at the end.
-use mathlib.Core.Path.{_≡_, refl, sym, ap, _∙_}
+use mathlib.Core.Path.{_≡_, refl, sym, ap, ap₂, _∙_}
 use mathlib.Core.Bool.{Bool, true, false, not, cond, _&&_}
 use Prim.Native.Nat.{ℕ, _+_, _*_, _/_, _%_, _^_, _<_, _≤_}
 use native.Mathlib.Omega.{arith}
 use lib.Dec.{eqb}
-use borrow.Author.Tests.{ eq-eqb, ne-eqb}
+use borrow.Author.Tests.{eq-eqb, ne-eqb}
 use Rattle.counting.specs.Tests.{by-cases}
-use Rattle.counting.specs.Counting.{count, one, count-none, count-next, count-le}
-use Rattle.counting.specs.Values.{metOf, valuesOf, values-none, values-next}
+use Rattle.counting.specs.Counting.{count, one, count-next, count-le}
+use Rattle.counting.specs.Values.{metOf, values-none, values-next}
 use Rattle.table.specs.View.{View, live, current, kept}
-use Rattle.entries.specs.Tally.{weightOf, Met, tallied, packed, Sided, Tallied, countsOf}
+use Rattle.entries.specs.Tally.{weightOf, Met, tallied, Counts, packed, Sided, Tallied, countsOf}
 use Rattle.entries.specs.Items.{itemTest}
+use Rattle.counting.specs.declared.values.Values.{Values}
 use Rattle.entries.specs.declared.tally.Side.{Side}
 use Rattle.entries.specs.declared.tally.Tally.{Tally}
 
@@ -240,10 +241,14 @@ tallied-all v b n m t s h g = let e : n ≡ m = omega arith in rw e at s
 
 -- ---- the item's test may look at the tally for the counts
 
+abbrev counted : Tally → Values → Values → Counts
+counted t x y = record { current = tallied t .current; kept = tallied t .kept; copies = tallied t .copies; values = x; keeps = y }
+
 pub test-tallied : (v : View) (b n : ℕ) (t : Tally) → Tallied v b n t → n < 256 → (phase : ℕ) → itemTest phase (tallied t) ≡ itemTest phase (countsOf v b n)
 unfolding itemTest
 test-tallied v b n t s h phase =
-    rw (
+    ap₂ (λ x y. itemTest phase (counted t x y)) (s .current .values) (s .kept .values)
+    ∙ rw (
       field-at-1 _ _ _ n h _ (s .current),
       field-at-2 _ _ _ n h _ (s .current),
       field-at-3 _ _ _ n h _ (s .current),
@@ -254,7 +259,4 @@ test-tallied v b n t s h phase =
       field-any _ _ _ n h _ (s .current),
       field-at-1 _ _ _ n h _ (s .kept),
       field-at-2 _ _ _ n h _ (s .kept),
-      ap (λ w. w .equal) (s .current .values),
-      ap (λ w. w .seen) (s .kept .values),
-      ap (λ w. w .equal) (s .kept .values),
     ) refl

@@ -32,9 +32,10 @@ fn clean(t: Tally) -> bool
     ensures { λ r. ⌜ r ≡ isClean (tallied t) ⌝ }
 {
     let c = t.current.counts;
+    let keeps = t.kept.counts != 0;
     (c / SHARED_CK1 % 256 == 1)
         & ((c / SHARED_CK2 % 256 == 1)
-            & ((c % 256 == 2 + c / SHARED % 256) & ((t.current.unequal == 0) & !(t.kept.counts != 0))))
+            & ((c % 256 == 2 + c / SHARED % 256) & ((t.current.unequal == 0) & !keeps)))
 }
 
 // One Modified and no other current copy, or one Owner with any number of Shared.
