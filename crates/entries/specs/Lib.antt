@@ -4,6 +4,7 @@ pub mod Tally
 pub mod Items
 pub mod TallyLoop
 pub mod Sound
+pub mod NodePass
 pub mod MarksLoop
 pub mod Check
 pub mod Kinds
