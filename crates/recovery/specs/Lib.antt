@@ -1,22 +1,37 @@
--- Recover as a plan, in the stages of document 01; what a table must have for it, and what every cut of it keeps.
+-- Recover, the plain memory, and the restore.
+
+-- ---- Recover as document 01 lists it: definitions
 pub mod Survivors
-pub mod SurvivorsCode
 pub mod Sides
 pub mod Rolling
-pub mod RollingCode
 pub mod Numbering
-pub mod NumberingCode
 pub mod Partners
+pub mod ClosingMarks
+pub mod Recover
+-- ---- a call as a value, the plain memory, runs, strikes, histories, and THE STATEMENTS of demands 2 and 3
+pub mod Call
+pub mod Memory
+pub mod Run
+pub mod Strike
+pub mod OneItem
+pub mod History
+pub mod Demand2
+pub mod Demand3
+pub mod Rehearsal
+-- ---- the ways of the code
+pub mod SurvivorsCode
+pub mod SidesCode
+pub mod RollingCode
+pub mod NumberingCode
 pub mod Followed
 pub mod PartnersCounts
 pub mod PartnersCode
-pub mod ClosingMarks
 pub mod ClosingMarksCode
-pub mod SidesCode
-pub mod Recover
 pub mod RecoverPlan
 pub mod RecoverStages
 pub mod RecoverCode
+pub mod CallCode
+-- ---- what survivors must have, and that every cut of a recovery keeps it, stage by stage
 pub mod Ready
 pub mod Recovered
 pub mod SameMarks
@@ -39,43 +54,38 @@ pub mod RecoverOff
 pub mod RecoverTheorem
 pub mod DeadName
 pub mod AnyTable
+-- ---- every cut of every other call leaves survivors what they must have
 pub mod Surviving
 pub mod Standing
 pub mod KeptReady
 pub mod MovingReady
 pub mod CommitReady
 pub mod CallsReady
-pub mod Call
-pub mod CallCode
-pub mod Memory
-pub mod Run
-pub mod Strike
-pub mod OneItem
-pub mod History
-pub mod Demand2
-pub mod HomeRefused
-pub mod Demand3
+-- ---- the relation to the plain memory, call by call and strike by strike
 pub mod Good
 pub mod GoodStep
 pub mod GoodCall
-pub mod HitReady
+pub mod GoodValues
 pub mod RecoverGood
+pub mod HitReady
 pub mod CutReady
 pub mod CutShape
 pub mod Attempts
 pub mod StrikeGood
 pub mod HistoryTheorem
+-- ---- demands 2 and 3
+pub mod HomeRefused
 pub mod LastWritten
 pub mod NeverForTable
+pub mod Demand2Theorem
+pub mod RunPoints
+pub mod Demand3Theorem
+-- ---- no list is as long as 2^16
 pub mod Lengths
 pub mod CallLengths
 pub mod RecoverLength
 pub mod WholeAt
-pub mod RunPoints
-pub mod GoodValues
-pub mod Demand2Theorem
-pub mod Demand3Theorem
-pub mod Rehearsal
+-- ---- the rehearsal, and the examples
 pub mod RehearseCode
 pub mod RehearsalExample
 pub mod Examples

@@ -117,7 +117,7 @@ module _ (t : List ℕ) (lost : Lost) (scratch : ℕ) {c : Checked} (e : c ≡ s
 -- ---- carried out
 
 -- the survivors' stages: their stores, and of the scratch only the first words, one a node
-pub record Restored (g : Geometry) (lost : Lost) (left : ℕ) (t t′ s s′ : List ℕ) (left′ : ℕ) : Type 0 where
+pub record StagesStored (g : Geometry) (lost : Lost) (left : ℕ) (t t′ s s′ : List ℕ) (left′ : ℕ) : Type 0 where
   pub stores : Stored g left (survivorStores g (survivors lost (view g t))) t t′ left′
   pub rest : drop (g .nodes) s′ ≡ drop (g .nodes) s
   pub size : length s′ ≡ length s
@@ -129,7 +129,7 @@ pub restored :
     → Stored g l₁ (numberStores g (survivors lost (view g t₁))) t₁ t₂ l₂
     → PartnersTurned g lost (partnersStores g) l₂ t₂ t₃ s s′ l₃
     → Stored g l₃ (closingStores g (survivors lost (view g t₃))) t₃ t₄ l₄
-    → Restored g lost l t t₄ s s′ l₄
+    → StagesStored g lost l t t₄ s s′ l₄
 restored g lost long way a b c d = record { stores = survivors-stored g lost long way a b (c .stores) d; rest = c .rest; size = c .size }
 
 -- the words past the first N are as they were, so those past the first M + N are
@@ -140,7 +140,7 @@ rest-same g s s′ h =
 
 pub recovered :
     (g : Geometry) (lost : Lost) {words l l₁ l₂ : ℕ} {t t₁ t₂ s s₁ s₂ : List ℕ} → Carriable g lost t s → words ≡ scratchWords g
-    → Stored g l (lostStores lost) t t₁ l₁ → Restored g lost l₁ t₁ t₂ s s₁ l₂ → s₂ ≡ replicate words 0 ++ drop words s₁
+    → Stored g l (lostStores lost) t t₁ l₁ → StagesStored g lost l₁ t₁ t₂ s s₁ l₂ → s₂ ≡ replicate words 0 ++ drop words s₁
     → Recovers g lost l t t₂ s s₂ l₂
 recovered g lost {s = s} {s₁} k e a r z = record {
   stores = recover-stored g lost (k .long) (k .inside) a (r .stores);

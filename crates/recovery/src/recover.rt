@@ -8,7 +8,7 @@ ghost use Rattle.table.specs.View.{view};
 ghost use Rattle.recovery.specs.Survivors.{survivors};
 ghost use Rattle.recovery.specs.ClosingMarks.{closingStores};
 ghost use Rattle.recovery.specs.Recover.{scratchWords, recoverAdmission, recoverOf};
-ghost use Rattle.recovery.specs.RecoverCode.{Carriable, Restored, Recovers, RecoverMeets};
+ghost use Rattle.recovery.specs.RecoverCode.{Carriable, StagesStored, Recovers, RecoverMeets};
 use crate::closing;
 use crate::lost::Lost;
 use crate::numbering;
@@ -71,7 +71,7 @@ fn close(table: &mut [u64], left: u64, g: Geometry, lost: Lost) -> u64
 // What is stored on the survivors, stage by stage.
 fn restore(table: &mut [u64], left: u64, g: Geometry, lost: Lost, scratch: &mut [u64]) -> u64
     requires { ⌜ (wordsOf g ≤ length (now table)) × (g .nodes ≤ length (now scratch)) ⌝ }
-    ensures { λ r. ⌜ Restored g lost left (now (table .entry)) (now (table .exit)) (now (scratch .entry)) (now (scratch .exit)) r ⌝ }
+    ensures { λ r. ⌜ StagesStored g lost left (now (table .entry)) (now (table .exit)) (now (scratch .entry)) (now (scratch .exit)) r ⌝ }
 {
     let forward = sides::forward_in(table, g, lost);
     let left = rolling::roll(table, left, g, lost, forward);
