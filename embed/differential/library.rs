@@ -3,65 +3,12 @@
 /// Answer, value and stores of a call.
 pub type Said = (u64, u64, u64);
 
-extern "C" {
-    fn linkspan_words(nodes: u64, items: u64) -> u64;
-    fn linkspan_check(table: *const u64, len: usize) -> u64;
-    fn linkspan_stretch(table: *const u64, len: usize, node: u64, start: *mut u64, words: *mut u64) -> u64;
-    fn linkspan_format(
-        table: *mut u64,
-        len: usize,
-        nodes: u64,
-        items: u64,
-        frames: u64,
-        limit: u64,
-        value: *mut u64,
-        stores: *mut u64,
-    ) -> u64;
-    fn linkspan_read(
-        table: *mut u64,
-        len: usize,
-        node: u64,
-        item: u64,
-        limit: u64,
-        value: *mut u64,
-        stores: *mut u64,
-    ) -> u64;
-    fn linkspan_write(
-        table: *mut u64,
-        len: usize,
-        node: u64,
-        item: u64,
-        new_value: u64,
-        limit: u64,
-        value: *mut u64,
-        stores: *mut u64,
-    ) -> u64;
-    fn linkspan_evict(
-        table: *mut u64,
-        len: usize,
-        node: u64,
-        item: u64,
-        place: u64,
-        limit: u64,
-        value: *mut u64,
-        stores: *mut u64,
-    ) -> u64;
-    fn linkspan_open(table: *mut u64, len: usize, limit: u64, value: *mut u64, stores: *mut u64) -> u64;
-    fn linkspan_create(table: *mut u64, len: usize, limit: u64, value: *mut u64, stores: *mut u64) -> u64;
-    fn linkspan_commit(table: *mut u64, len: usize, limit: u64, value: *mut u64, stores: *mut u64) -> u64;
-    fn linkspan_abandon(table: *mut u64, len: usize, limit: u64, value: *mut u64, stores: *mut u64) -> u64;
-    fn linkspan_recover(
-        table: *mut u64,
-        len: usize,
-        none: u64,
-        lost: u64,
-        scratch: *mut u64,
-        scratch_len: usize,
-        limit: u64,
-        value: *mut u64,
-        stores: *mut u64,
-    ) -> u64;
-}
+// The wrapper's own declarations, so that this test holds them to the library too.
+#[allow(dead_code)]
+#[path = "../rust/linkspan.rs"]
+mod linkspan;
+
+use linkspan::ffi::*;
 
 /// What value and stores hold before a call: a call that leaves them is seen.
 const UNSET: u64 = 0xdead_beef_dead_beef;

@@ -2,9 +2,10 @@
 //! [`Answer`].
 //!
 //! Add this file to a program (`mod linkspan;`) and link `liblinkspan.a`:
-//! `rustc -L FOLDER -l static=linkspan program.rs`. It needs `core` only.
+//! `rustc --edition 2021 -L FOLDER -l static=linkspan program.rs`. It needs `core` only.
 
-mod ffi {
+/// The library's functions as they are in C; `linkspan.h` says what each does.
+pub(crate) mod ffi {
     extern "C" {
         pub fn linkspan_words(nodes: u64, items: u64) -> u64;
         pub fn linkspan_check(table: *const u64, len: usize) -> u64;
