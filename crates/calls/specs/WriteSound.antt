@@ -62,7 +62,7 @@ module _ (g : Geometry) (n b x : ℕ) (v w : View) (own : Live g v n) (z : Writt
   was-live k l t = test-live g v k l (sym (ap (λ f. not (eqb (f k) 0)) (z .marks)) ∙ t)
 
   module _ (phase number : ℕ) (good : SoundTable g v phase number) (item : b < g .items) (kp : Kept g v w) where
-    pub written-dirty : Dirty w (g .nodes) b
+    written-dirty : Dirty w (g .nodes) b
     written-dirty = record {
       node = n;
       value = x;
@@ -98,12 +98,6 @@ module _
   -- the memory
   pub write-shows : WriteShows g n b x (view g t) (view g (after g limit ss t))
   write-shows = written-shows g n b x _ _ writer (write-written t n b x accepted limit whole) (write-keeps t n b x accepted limit)
-
-  -- the item written is dirty
-  pub write-dirty : Dirty (view g (after g limit ss t)) (g .nodes) b
-  write-dirty =
-      written-dirty g n b x _ _ writer (write-written t n b x accepted limit whole) _ _ (facts t n b x accepted .table)
-      (admits t n b x accepted .place .item) (write-keeps t n b x accepted limit)
 
   pub write-accepted : Accepted (after g limit ss t) g (phaseIn g (view g t)) (numberIn g (view g t))
   write-accepted = record {

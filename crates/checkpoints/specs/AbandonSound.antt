@@ -19,7 +19,7 @@ use Rattle.table.specs.Answers.{carry}
 use Rattle.entries.specs.declared.check.Checked.the-variants.{Passed}
 use Rattle.entries.specs.Check.{faultOf}
 use Rattle.entries.specs.Kinds.{cleanCode, ownerCode, Dirty, Created, owner-at, Kind, clean, dirty, created}
-use Rattle.entries.specs.SoundFacts.{SoundTable, phaseIn, numberIn}
+use Rattle.entries.specs.SoundFacts.{SoundTable, numberIn}
 use Rattle.entries.specs.CheckFacts.{Accepted, facts-accepted}
 use Rattle.checkpoints.specs.declared.checkpoint.Closing.the-variants.{Abandoned}
 use Rattle.checkpoints.specs.Checkpoint.{isPrecommit}
@@ -28,7 +28,7 @@ use Rattle.checkpoints.specs.Abandon.{runningMark, abandonStores, abando
 use Rattle.homes.specs.Kept.{live-test, test-live}
 use Rattle.checkpoints.specs.KeptMarks.{KeptEntries}
 use Rattle.homes.specs.SoundKept.{Off, shape-after}
-use Rattle.checkpoints.specs.MarksSound.{marks-off, entries-off, number-fits, opened, NewMarks, new-live, marks-sound}
+use Rattle.checkpoints.specs.MarksSound.{marks-off, entries-off, number-fits, NewMarks, new-live, marks-sound}
 use Rattle.checkpoints.specs.KindMoved.{Moves, created-moves, not-precommit, dirtyCode, dirty-codes, saved-moved, clean-moved, dirty-moved, first-moved, codes-moved, values-moved}
 use Rattle.checkpoints.specs.AbandonEntry.{abandonedBy, abandoned}
 use Rattle.checkpoints.specs.AbandonTheorem.{AbandonEnd, carried, facts, abandon-keeps, abandon-abandoned}
@@ -125,10 +125,6 @@ module _
     (t : List ℕ) {g : Geometry} {value : ℕ} {ss : List Store} (accepted : abandonOf t ≡ carry g value ss) (limit : ℕ) (whole : length ss ≤ limit) where
   some-item : 0 < g .items
   some-item = omega (arith, facts t accepted .shape .sizes)
-
-  -- it was in phase 1
-  pub abandon-was : phaseIn g (view g t) ≡ 1
-  abandon-was = opened g (view g t) _ _ (facts t accepted .table) some-item (carried t accepted .admitted)
 
   pub abandon-accepted : Accepted (after g limit ss t) g 0 (numberIn g (view g t))
   abandon-accepted = record {

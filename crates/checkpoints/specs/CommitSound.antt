@@ -21,7 +21,7 @@ use Rattle.entries.specs.declared.check.Checked.the-variants.{Passed}
 use Rattle.entries.specs.Check.{faultOf}
 use Rattle.entries.specs.Tally.{copy, keep}
 use Rattle.entries.specs.Kinds.{cleanCode, Clean, Owned, modified-at, owner-at, Created, Kind, clean, dirty, created, has-live, has-code, no-keep}
-use Rattle.entries.specs.SoundFacts.{SoundTable, phaseIn, numberIn}
+use Rattle.entries.specs.SoundFacts.{SoundTable, numberIn}
 use Rattle.entries.specs.CheckFacts.{Accepted, facts-accepted}
 use Rattle.homes.specs.declared.admission.Admission.the-variants.{Admitted}
 use Rattle.checkpoints.specs.declared.checkpoint.Closing.the-variants.{Committed}
@@ -181,10 +181,6 @@ module _
     (t : List ℕ) {g : Geometry} {value : ℕ} {ss : List Store} (accepted : commitOf t ≡ carry g value ss) (limit : ℕ) (whole : length ss ≤ limit) where
   some-item : 0 < g .items
   some-item = omega (arith, facts t accepted .shape .sizes)
-
-  -- it was in phase 1
-  pub commit-was : phaseIn g (view g t) ≡ 1
-  commit-was = commit-opened g (view g t) _ _ (facts t accepted .table) some-item (carried t accepted .admitted)
 
   -- every item is clean, of its current value at entry
   pub commit-saves : (b : ℕ) → b < g .items → Saves (view g t) (view g (after g limit ss t)) (g .nodes) b

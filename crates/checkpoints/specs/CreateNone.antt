@@ -6,11 +6,10 @@ use mathlib.Core.List.{List}
 use native.Mathlib.Omega.{arith}
 use lib.Dec.{ltb}
 use borrow.Author.Tests.{ltb-false, le-ltb}
-use Rattle.counting.specs.Tests.{and-no-right}
 use Rattle.counting.specs.First.{first-least, first-none}
 use Rattle.table.specs.declared.geometry.Geometry.{Geometry}
 use Rattle.table.specs.declared.answers.Refusal.the-variants.{NoHome, NoCheckpoint}
-use Rattle.table.specs.View.{View, view, live, current}
+use Rattle.table.specs.View.{View, view}
 use Rattle.table.specs.Answers.{refuse, nothingLeft, carry}
 use Rattle.entries.specs.declared.check.Checked.{Checked}
 use Rattle.entries.specs.declared.check.Checked.the-variants.{Passed, Failed}
@@ -18,9 +17,8 @@ use Rattle.entries.specs.Check.{faultOf}
 use Rattle.homes.specs.declared.admission.Admission.{Admission}
 use Rattle.homes.specs.declared.admission.Admission.the-variants.{Admitted, Turned}
 use Rattle.homes.specs.Plans.{planAdmitted, planChecked, planBy, plan-admitted}
-use Rattle.checkpoints.specs.Checkpoint.{isOpen, openAdmission, owns, ownsAt, ownerOf, dirty, dirtyItem}
+use Rattle.checkpoints.specs.Checkpoint.{isOpen, openAdmission, dirty, dirtyItem}
 use Rattle.checkpoints.specs.Create.{createStores, noPartner, createPlan, createOf}
-use Rattle.homes.specs.Kept.{Live, live-test}
 
 pub record NoneLeft (t : List ℕ) : Type 0 where
   pub geometry : Geometry
@@ -81,16 +79,3 @@ nothing-left t e = checked (faultOf t) refl e
     checked : (c : Checked) → c ≡ faultOf t → planChecked openAdmission createPlan t c ≡ nothingLeft → NoneLeft t
     checked (Failed r) p e = let z : _≡_ {A = ℕ} 0 1 = cc in absurd (omega arith)
     checked (Passed g) p e = admitted g (sym p) (openAdmission g (view g t)) refl e
-
--- no live copy is then Owner or Modified
-pub none-owned-left :
-    (t : List ℕ) (n : NoneLeft t) (k b : ℕ) → Live (n .geometry) (view (n .geometry) t) k → b < n .geometry .items
-    → owns (current (view (n .geometry) t .entry k b)) ≡ false
-unfolding dirty ownerOf ownsAt
-none-owned-left t n k b l h = not-owning (n .geometry) (view (n .geometry) t) b (n .clean b h) k l
-  where
-    not-owning : (g : Geometry) (v : View) (b : ℕ) → dirty g v b ≡ false → (k : ℕ) → Live g v k → owns (current (v .entry k b)) ≡ false
-    not-owning g v b e k l =
-        let m = ltb-false (ownerOf g v b) (g .nodes) e in
-        let i = l .there in
-        and-no-right (live v k) (live-test g v k l) (first-least (ownsAt v b) (g .nodes) k (omega arith))

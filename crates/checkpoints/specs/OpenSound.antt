@@ -1,5 +1,5 @@
 -- A whole Open leaves a sound table, in phase 1: every item is of its kind still.
-use Prim.Native.Nat.{ℕ, _-_, _^_, _≤_, _<_}
+use Prim.Native.Nat.{ℕ, _≤_, _<_}
 use mathlib.Core.Path.{_≡_, ap, _∙_}
 use mathlib.Core.List.{List}
 use native.Mathlib.Omega.{arith}
@@ -13,7 +13,7 @@ use Rattle.table.specs.Answers.{carry}
 use Rattle.entries.specs.declared.check.Checked.the-variants.{Passed}
 use Rattle.entries.specs.Check.{faultOf}
 use Rattle.entries.specs.Kinds.{Kind, clean, dirty, created}
-use Rattle.entries.specs.SoundFacts.{SoundTable, phaseIn, numberIn}
+use Rattle.entries.specs.SoundFacts.{SoundTable, numberIn}
 use Rattle.entries.specs.CheckFacts.{Accepted, facts-accepted}
 use Rattle.homes.specs.declared.admission.Admission.the-variants.{Admitted}
 use Rattle.checkpoints.specs.Open.{creatingMark, startAdmission, openOf}
@@ -49,10 +49,6 @@ module _
     (t : List ℕ) {g : Geometry} {value : ℕ} {ss : List Store} (accepted : openOf t ≡ carry g value ss) (limit : ℕ) (whole : length ss ≤ limit) where
   some-item : 0 < g .items
   some-item = omega (arith, facts t accepted .shape .sizes)
-
-  -- it was in phase 0, and has a number to come
-  pub open-was : (phaseIn g (view g t) ≡ 0) × (numberIn g (view g t) < 2 ^ 32 - 1)
-  open-was = started g (view g t) _ _ (facts t accepted .table) some-item (carried t accepted .admitted)
 
   pub open-accepted : Accepted (after g limit ss t) g 1 (numberIn g (view g t))
   open-accepted = record {

@@ -10,7 +10,7 @@ use lib.Dec.{ltb}
 use borrow.Author.Tests.{eq-eqb, eqb-true, eqb-false, ltb-true, ltb-false}
 use Rattle.table.specs.declared.geometry.Geometry.{Geometry}
 use Rattle.table.specs.View.{View, live}
-use Rattle.counting.specs.Tests.{both, by-cases, no-both}
+use Rattle.counting.specs.Tests.{both, by-cases}
 use Rattle.counting.specs.First.{first-le, first-least, first-passes, first-none}
 use Rattle.homes.specs.declared.places.Place.{Place}
 use Rattle.homes.specs.Home.{fits, nodeAfter, fitsAfter, passedOver, homeOf, noHome}
@@ -107,8 +107,3 @@ module _ (g : Geometry) (v : View) (place : Place) (n b : ℕ) (h : n < g .nodes
         alive = both (live v (homeOf g v place n b)) t .0;
         takes = t;
       }
-
-  -- another node can take the copy: then there is a home
-  pub some-home : (m : ℕ) → m < g .nodes → m ≢ n → fits g v place b m ≡ true → noHome g v place n b ≡ false
-  some-home m l d e =
-      by-cases (noHome g v place n b) (λ q. absurd (no-both e (no-home-none q m l d))) (λ q. q)

@@ -16,10 +16,6 @@ use Rattle.recovery.specs.declared.lost.Lost.{Lost}
 use Rattle.recovery.specs.declared.lost.Lost.the-variants.{Nobody, Node}
 use Rattle.recovery.specs.Survivors.{survivors}
 
--- nothing left: any list
-pub stored-cut : (g : Geometry) (ss : List Store) (t : List ℕ) → Stored g 0 ss t t 0
-stored-cut g ss t = record { table = sym (after-zero g ss t); rest = omega arith; size = refl }
-
 -- nothing left: the same for another list
 pub stored-any :
     {g : Geometry} {ss : List Store} (ss′ : List Store) {left′ : ℕ} {t t′ : List ℕ} → Stored g 0 ss t t′ left′ → Stored g 0 ss′ t t′ left′
