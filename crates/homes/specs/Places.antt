@@ -1,12 +1,18 @@
 -- The two places of an entry: a current copy or a kept one.
 use Prim.Native.Nat.{ℕ}
 use mathlib.Core.Path.{_≡_, refl, ap}
-use mathlib.Core.Bool.{Bool, false}
+use mathlib.Core.Logic.{_≢_}
+use mathlib.Core.Bool.{Bool, false, cond}
 use lib.Dec.{eqb}
+use borrow.Author.Tests.{eq-eqb, ne-eqb}
 use Rattle.table.specs.Words.{currentOf, keptOf, shared}
 use Rattle.table.specs.View.{Entry}
 use Rattle.homes.specs.declared.places.Place.{Place}
 use Rattle.homes.specs.declared.places.Place.the-variants.{Current, Kept}
+
+-- the place that a number names: "0 current, 1 kept". Who takes no third number says so before.
+unfoldable pub placeBy : ℕ → Place
+placeBy number = cond (eqb number 0) Current Kept
 
 -- the state code there, by the state word
 abbrev pub codeOf : Place → ℕ → ℕ
@@ -24,6 +30,16 @@ codeIn place e = codeOf place (e .state)
 abbrev pub valueIn : Place → Entry → ℕ
 valueIn Current e = e .value
 valueIn Kept e = e .keptValue
+
+-- ---- the ways of the code that names a place
+
+pub place-current : (number : ℕ) → number ≡ 0 → Current ≡ placeBy number
+unfolding placeBy
+place-current number e = rw (eq-eqb number 0 e) refl
+
+pub place-kept : (number : ℕ) → number ≢ 0 → Kept ≡ placeBy number
+unfolding placeBy
+place-kept number e = rw (ne-eqb number 0 e) refl
 
 -- ---- the ways of the code that looks there
 

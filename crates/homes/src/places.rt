@@ -1,13 +1,23 @@
 // The two places of an entry: "current or kept place (a choice of two, no third can be handed in)".
 ghost use mathlib.Core.Path.{_≡_};
 ghost use Rattle.table.specs.View.{view};
-ghost use Rattle.homes.specs.Places.{codeOf, sharedIn, valueIn};
+ghost use Rattle.homes.specs.Places.{placeBy, codeOf, sharedIn, valueIn};
 use table::geometry::Geometry;
 use table::words::SHARED;
 
 pub enum Place {
     Current,
     Kept,
+}
+
+// The place that a number names: 0 the current one, any other the kept one.
+pub fn place_by(number: u64) -> Place
+    ensures { λ r. ⌜ r ≡ placeBy number ⌝ }
+{
+    if number == 0 {
+        return Place::Current;
+    }
+    Place::Kept
 }
 
 // The state code in a place of a state word.

@@ -1,11 +1,9 @@
 // The calls of running programs: Read, Write, Evict.
-ghost use mathlib.Core.Path.{_≡_};
 ghost use Rattle.calls.specs.Read.{readOf};
 ghost use Rattle.calls.specs.Write.{writeOf};
 ghost use Rattle.linkspan.specs.Report.{planned, Reports};
-ghost use Rattle.linkspan.specs.Arguments.{placeOf, evictAsked};
+ghost use Rattle.linkspan.specs.Arguments.{evictAsked};
 use crate::report;
-use homes::places::Place;
 
 // Reads an item at a node: the item's value.
 #[no_mangle]
@@ -40,16 +38,6 @@ pub extern "C" fn linkspan_write(
     report::report(answer, value, stores)
 }
 
-// The place that 0 or 1 stands for.
-fn place_of(place: u64) -> Place
-    ensures { λ r. ⌜ r ≡ placeOf place ⌝ }
-{
-    if place == 0 {
-        return Place::Current;
-    }
-    Place::Kept
-}
-
 // Moves or drops the copy in a node's current place, 0, or kept place, 1. Any other place is answered 18.
 #[no_mangle]
 pub extern "C" fn linkspan_evict(
@@ -66,7 +54,7 @@ pub extern "C" fn linkspan_evict(
     if 1 < place {
         return report::malformed(value, stores);
     }
-    let named = place_of(place);
+    let named = homes::places::place_by(place);
     let answer = homes::evict::evict(table, node, item, named, limit);
     report::report(answer, value, stores)
 }

@@ -1,20 +1,8 @@
 // Recover.
-ghost use mathlib.Core.Path.{_≡_};
 ghost use lib.ListN.{length};
-ghost use Rattle.linkspan.specs.Arguments.{lostOf, recoverAsked};
+ghost use Rattle.linkspan.specs.Arguments.{recoverAsked};
 ghost use Rattle.linkspan.specs.Report.{RecoverReports};
 use crate::report;
-use recovery::lost::Lost;
-
-// The lost node, or that none was lost where `none` is 1.
-fn lost_of(none: u64, lost: u64) -> Lost
-    ensures { λ r. ⌜ r ≡ lostOf none lost ⌝ }
-{
-    if none == 1 {
-        return Lost::Nobody;
-    }
-    Lost::Node(lost)
-}
 
 // Brings the survivors back to the last recovery point, or on to the new one. `none` is 1 where no node was lost, then `lost` is not used, and 0 where
 // `lost` was; any other `none` is answered 18.
@@ -33,7 +21,7 @@ pub extern "C" fn linkspan_recover(
     if 1 < none {
         return report::malformed(value, stores);
     }
-    let node = lost_of(none, lost);
+    let node = recovery::lost::lost_by(none, lost);
     let answer = recovery::recover::recover(table, node, scratch, limit);
     report::report(answer, value, stores)
 }

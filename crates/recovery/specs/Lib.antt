@@ -1,6 +1,7 @@
 -- Recover, the plain memory, and the restore.
 
 -- ---- Recover as document 01 lists it: definitions
+pub mod Lost
 pub mod Survivors
 pub mod Sides
 pub mod Rolling

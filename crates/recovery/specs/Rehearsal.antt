@@ -14,12 +14,12 @@ use Rattle.table.specs.Answers.{Plan, answerOf, tableOf}
 use Rattle.entries.specs.declared.check.Checked.{Checked}
 use Rattle.entries.specs.declared.check.Checked.the-variants.{Passed, Failed}
 use Rattle.entries.specs.Check.{sizesOf}
-use Rattle.homes.specs.declared.places.Place.{Place}
-use Rattle.homes.specs.declared.places.Place.the-variants.{Current, Kept}
+use Rattle.homes.specs.Places.{placeBy}
 use Rattle.recovery.specs.declared.lost.Lost.{Lost}
 use Rattle.recovery.specs.declared.lost.Lost.the-variants.{Nobody, Node}
 use Rattle.recovery.specs.declared.call.Call.{Call}
 use Rattle.recovery.specs.declared.call.Call.the-variants.{Format, Check, Stretch, Read, Write, Evict, Open, Create, Commit, Abandon, Recover}
+use Rattle.recovery.specs.Lost.{lostBy}
 use Rattle.recovery.specs.Survivors.{survivors, carries}
 use Rattle.recovery.specs.Recover.{scratchWords, tooFew, recoverOf}
 use Rattle.recovery.specs.Memory.{Memory, zeros, carried, savedIn}
@@ -29,12 +29,6 @@ use Rattle.recovery.specs.OneItem.{OnTwoNodes, HasValue}
 
 -- ---- the list of calls: five words a call, its operation, three arguments and a flag. The flag of an Evict is its place (0 current, else kept), that of a
 -- Recover says that none was lost (0: the node of the first argument, else none).
-
-unfoldable pub placeBy : ℕ → Place
-placeBy flag = cond (eqb flag 0) Current Kept
-
-unfoldable pub lostBy : ℕ → ℕ → Lost
-lostBy flag n = cond (eqb flag 0) (Node n) Nobody
 
 -- an operation that is none of these is a check
 unfoldable pub callBy : ℕ → ℕ → ℕ → ℕ → ℕ → Call

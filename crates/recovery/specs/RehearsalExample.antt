@@ -8,7 +8,7 @@ use Rattle.recovery.specs.declared.lost.Lost.the-variants.{Node}
 use Rattle.recovery.specs.declared.call.Call.the-variants.{Format, Write, Open, Create, Commit}
 use Rattle.recovery.specs.Memory.{savedIn}
 use Rattle.recovery.specs.Run.{commitsFrom, memoryFrom, Formatted, tableBy}
-use Rattle.recovery.specs.Rehearsal.{placeBy, lostBy, callBy, callAt, stepsTo, nodeWordAt, putTo, hitNode, hitSized, hitBy, brokenAt, Script, wholeCalls, memory, Demanded}
+use Rattle.recovery.specs.Rehearsal.{callBy, callAt, stepsTo, nodeWordAt, putTo, hitNode, hitSized, hitBy, brokenAt, Script, wholeCalls, memory, Demanded}
 use Rattle.counting.specs.Counting.{every, sum, count}
 use Rattle.counting.specs.First.{first, firstOr}
 use Rattle.counting.specs.Values.{valuesOf}
@@ -25,6 +25,7 @@ use Rattle.entries.specs.Sound.{marksForm, phasesOf, pointsOf, statesForm, node
 use Rattle.entries.specs.Check.{lengthOf, sizesOf, soundOf, faultOf}
 use Rattle.homes.specs.Plans.{planAdmitted, planChecked, planBy}
 use Rattle.homes.specs.Admission.{admissionOf, frameFull, frameAdmission}
+use Rattle.homes.specs.Places.{placeBy}
 use Rattle.calls.specs.Transitions.{changeTo}
 use Rattle.checkpoints.specs.Checkpoint.{commonMark, isOpen, openAdmission, ownsAt, ownerOf, dirty, dirtyItem, liveChanges, entriesBefore}
 use Rattle.checkpoints.specs.Closing.{commitChange, closeChange}
@@ -36,6 +37,7 @@ use Rattle.checkpoints.specs.Open.{startAdmission}
 use Rattle.checkpoints.specs.Create.{sharesAt, sharerOf, partnerStores as createdPartner, createItem, noPartner, createPlan}
 use Rattle.checkpoints.specs.Commit.{commitStores, createdAdmission}
 use Rattle.counting.specs.Exists.{exists}
+use Rattle.recovery.specs.Lost.{lostBy}
 use Rattle.recovery.specs.Survivors.{survivorCount}
 use Rattle.recovery.specs.Sides.{forwardIn, copiesOn, itemFits, itemsFit}
 use Rattle.recovery.specs.Rolling.{bringBack, settled, rollChange, rollStores}

@@ -24,11 +24,12 @@ use Rattle.entries.specs.declared.check.Checked.the-variants.{Passed, Failed}
 use Rattle.entries.specs.Check.{sizesOf}
 use Rattle.entries.specs.CheckFacts.{Shape, facts-sizes}
 use Rattle.homes.specs.declared.places.Place.{Place}
-use Rattle.homes.specs.declared.places.Place.the-variants.{Current, Kept}
+use Rattle.homes.specs.Places.{placeBy}
 use Rattle.recovery.specs.declared.lost.Lost.{Lost}
 use Rattle.recovery.specs.declared.lost.Lost.the-variants.{Nobody, Node}
 use Rattle.recovery.specs.declared.call.Call.{Call}
 use Rattle.recovery.specs.declared.call.Call.the-variants.{Format, Check, Stretch, Read, Write, Evict, Open, Create, Commit, Abandon, Recover}
+use Rattle.recovery.specs.Lost.{lostBy}
 use Rattle.recovery.specs.Recover.{scratchWords, recoverOf}
 use Rattle.recovery.specs.RecoverPlan.{recover-carries, carries-recover}
 use Rattle.recovery.specs.RecoverCode.{RecoverMeets}
@@ -46,25 +47,9 @@ use Rattle.recovery.specs.WholeAt.{whole-at, whole-count}
 use Rattle.recovery.specs.Demand3.{Restored}
 use Rattle.recovery.specs.Demand3Theorem.{demand3}
 use Rattle.recovery.specs.OneItem.{OnTwoNodes}
-use Rattle.recovery.specs.Rehearsal.{placeBy, lostBy, callAt, callBy, callCount, stepsTo, nodeWordAt, nodeWords, putTo, hitNode, hitSized, hitBy, brokenAt, Script, wholeCalls, next, before, cut, struck, attempted, lastRecovery, recovered, geometry, surviving, memory, Demanded, Restores, Rehearsed}
+use Rattle.recovery.specs.Rehearsal.{callAt, callBy, callCount, stepsTo, nodeWordAt, nodeWords, putTo, hitNode, hitSized, hitBy, brokenAt, Script, wholeCalls, next, before, cut, struck, attempted, lastRecovery, recovered, geometry, surviving, memory, Demanded, Restores, Rehearsed}
 
 -- ---- a call of its words
-
-pub place-current : (flag : ℕ) → flag ≡ 0 → Current ≡ placeBy flag
-unfolding placeBy
-place-current flag e = rw e refl
-
-pub place-kept : (flag : ℕ) → flag ≢ 0 → Kept ≡ placeBy flag
-unfolding placeBy
-place-kept flag e = simp (ne-eqb flag 0 e)
-
-pub lost-node : (flag n : ℕ) → flag ≡ 0 → Node n ≡ lostBy flag n
-unfolding lostBy
-lost-node flag n e = rw e refl
-
-pub lost-nobody : (flag n : ℕ) → flag ≢ 0 → Nobody ≡ lostBy flag n
-unfolding lostBy
-lost-nobody flag n e = simp (ne-eqb flag 0 e)
 
 module _ (operation x y z flag : ℕ) where
   pub by-format : operation ≡ 0 → Format x y z ≡ callBy operation x y z flag

@@ -5,11 +5,10 @@ ghost use lib.ListN.{length};
 ghost use Rattle.table.specs.Answers.{tableOf};
 ghost use Rattle.recovery.specs.Call.{planOf};
 ghost use Rattle.recovery.specs.Run.{run};
-ghost use Rattle.recovery.specs.Rehearsal.{placeBy, lostBy, callBy, callCount, callAt, stepsTo, nodeWordAt, nodeWords, putTo, hitNode, hitBy, brokenAt, Rehearsed};
+ghost use Rattle.recovery.specs.Rehearsal.{callBy, callCount, callAt, stepsTo, nodeWordAt, nodeWords, putTo, hitNode, hitBy, brokenAt, Rehearsed};
 use crate::call::Call;
 use crate::lost::Lost;
 use entries::check::Checked;
-use homes::places::Place;
 use table::answers::Answer;
 use table::geometry::Geometry;
 use table::stores;
@@ -17,32 +16,12 @@ use table::stores;
 // A limit that no call reaches.
 const WHOLE: u64 = 0xffff_ffff_ffff_ffff;
 
-// The place that a flag names.
-fn place_by(flag: u64) -> Place
-    ensures { λ r. ⌜ r ≡ placeBy flag ⌝ }
-{
-    if flag == 0 {
-        return Place::Current;
-    }
-    Place::Kept
-}
-
-// The node that a flag and a number name, or none.
-fn lost_by(flag: u64, node: u64) -> Lost
-    ensures { λ r. ⌜ r ≡ lostBy flag node ⌝ }
-{
-    if flag == 0 {
-        return Lost::Node(node);
-    }
-    Lost::Nobody
-}
-
 // A call of its five words.
 fn call_by(operation: u64, x: u64, y: u64, z: u64, flag: u64) -> Call
     ensures { λ r. ⌜ r ≡ callBy operation x y z flag ⌝ }
 {
-    let place = place_by(flag);
-    let lost = lost_by(flag, x);
+    let place = homes::places::place_by(flag);
+    let lost = crate::lost::lost_by(flag, x);
     if operation == 0 {
         return Call::Format {
             nodes: x,

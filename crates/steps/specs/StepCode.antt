@@ -3,35 +3,17 @@ use Prim.Native.Nat.{ℕ}
 use mathlib.Core.Path.{_≡_, refl}
 use mathlib.Core.Bool.{Bool, true, false, _&&_, _||_}
 use lib.Dec.{eqb}
-use borrow.Author.Tests.{eq-eqb, ne-eqb}
+use borrow.Author.Tests.{ne-eqb}
 use Rattle.table.specs.Words.{sizeForm, nodesOf, itemsOf, framesOf}
 use Rattle.homes.specs.declared.places.Place.{Place}
-use Rattle.homes.specs.declared.places.Place.the-variants.{Current, Kept}
+use Rattle.homes.specs.Places.{placeBy}
 use Rattle.recovery.specs.declared.lost.Lost.{Lost}
-use Rattle.recovery.specs.declared.lost.Lost.the-variants.{Nobody, Node}
+use Rattle.recovery.specs.Lost.{lostBy}
 use Rattle.recovery.specs.declared.call.Call.{Call}
 use Rattle.recovery.specs.declared.call.Call.the-variants.{Format, Read, Write, Evict, Recover}
 use Rattle.steps.specs.declared.decode.Step.{Step}
 use Rattle.steps.specs.declared.decode.Step.the-variants.{Asked, Malformed}
-use Rattle.steps.specs.Steps.{operationOf, nodeOf, itemOf, placeOf, restOf, choiceOf, lostOf, formatStep, readStep, writeStep, evictStep, bareStep, recoverStep, stepBy, stepOf}
-
--- the place and the lost node
-module _ (f : ℕ) {p : ℕ} (hp : p ≡ placeOf f) where
-  pub choice-current : p ≡ 0 → Current ≡ choiceOf f
-  unfolding choiceOf
-  choice-current h = rw (← hp, eq-eqb p 0 h) refl
-
-  pub choice-kept : (p ≡ 0 → ⊥) → Kept ≡ choiceOf f
-  unfolding choiceOf
-  choice-kept h = rw (← hp, ne-eqb p 0 h) refl
-
-  pub lost-node : {n : ℕ} → p ≡ 0 → n ≡ nodeOf f → Node n ≡ lostOf f
-  unfolding lostOf
-  lost-node h hn = rw (← hp, eq-eqb p 0 h, hn) refl
-
-  pub lost-nobody : (p ≡ 0 → ⊥) → Nobody ≡ lostOf f
-  unfolding lostOf
-  lost-nobody h = rw (← hp, ne-eqb p 0 h) refl
+use Rattle.steps.specs.Steps.{operationOf, nodeOf, itemOf, placeOf, restOf, formatStep, readStep, writeStep, evictStep, bareStep, recoverStep, stepBy, stepOf}
 
 -- a record that keeps the rule of its operation, and one that breaks it
 module _ (f s : ℕ) where
@@ -70,10 +52,10 @@ module _ (f s : ℕ) where
   write-broken hp he h = rw (← hp, ← he, h) refl
 
   pub evict-kept :
-      {e n b : ℕ} {c : Place} → e ≡ restOf f
-      → (eqb e 0 && eqb s 0) ≡ true → n ≡ nodeOf f → b ≡ itemOf f → c ≡ choiceOf f → Asked (Evict n b c) ≡ evictStep f s
+      {e p n b : ℕ} {c : Place} → e ≡ restOf f
+      → (eqb e 0 && eqb s 0) ≡ true → n ≡ nodeOf f → b ≡ itemOf f → p ≡ placeOf f → c ≡ placeBy p → Asked (Evict n b c) ≡ evictStep f s
   unfolding evictStep
-  evict-kept he h hn hb hc = rw (← he, h, hn, hb, hc) refl
+  evict-kept he h hn hb hp hc = rw (← he, h, hn, hb, hc, hp) refl
 
   pub evict-broken : {e : ℕ} → e ≡ restOf f → (eqb e 0 && eqb s 0) ≡ false → Malformed ≡ evictStep f s
   unfolding evictStep
@@ -92,10 +74,10 @@ module _ (f s : ℕ) where
   bare-broken x hn hb hp he h = rw (← hn, ← hb, ← hp, ← he, h) refl
 
   pub recover-kept :
-      {b e p n : ℕ} {l : Lost} → b ≡ itemOf f → e ≡ restOf f → p ≡ placeOf f → n ≡ nodeOf f
-      → (eqb b 0 && (eqb e 0 && (eqb s 0 && (eqb p 0 || eqb n 0)))) ≡ true → l ≡ lostOf f → Asked (Recover l) ≡ recoverStep f s
+      {b e p n p′ n′ : ℕ} {l : Lost} → b ≡ itemOf f → e ≡ restOf f → p ≡ placeOf f → n ≡ nodeOf f
+      → (eqb b 0 && (eqb e 0 && (eqb s 0 && (eqb p 0 || eqb n 0)))) ≡ true → p′ ≡ placeOf f → n′ ≡ nodeOf f → l ≡ lostBy p′ n′ → Asked (Recover l) ≡ recoverStep f s
   unfolding recoverStep
-  recover-kept hb he hp hn h hl = rw (← hb, ← he, ← hp, ← hn, h, hl) refl
+  recover-kept hb he hp hn h hp′ hn′ hl = rw (← hb, ← he, ← hp, ← hn, h, hl, hp′, hn′, hp, hn) refl
 
   pub recover-broken :
       {b e p n : ℕ} → b ≡ itemOf f → e ≡ restOf f → p ≡ placeOf f → n ≡ nodeOf f

@@ -7,7 +7,9 @@ use Rattle.homes.specs.declared.places.Place.the-variants.{Current, Kept}
 use Rattle.recovery.specs.declared.lost.Lost.the-variants.{Nobody, Node}
 use Rattle.recovery.specs.declared.call.Call.the-variants.{Format, Read, Write, Evict, Open, Create, Commit, Abandon, Recover}
 use Rattle.steps.specs.declared.decode.Step.the-variants.{Asked, Malformed}
-use Rattle.steps.specs.Steps.{choiceOf, lostOf, formatStep, readStep, writeStep, evictStep, bareStep, recoverStep, stepBy, stepOf}
+use Rattle.homes.specs.Places.{placeBy}
+use Rattle.recovery.specs.Lost.{lostBy}
+use Rattle.steps.specs.Steps.{formatStep, readStep, writeStep, evictStep, bareStep, recoverStep, stepBy, stepOf}
 use Rattle.steps.specs.Records.{recordOf}
 
 -- the first word of operation o, node n, item b, place p
@@ -44,7 +46,7 @@ pub listing :
     ∷ Read 1 0
     ∷ Read 2 0
     ∷ [])
-unfolding choiceOf lostOf formatStep readStep writeStep evictStep bareStep recoverStep stepBy
+unfolding placeBy lostBy formatStep readStep writeStep evictStep bareStep recoverStep stepBy
 listing = refl
 
 -- the largest fields, the kept place, a Recover of none, abandon, a format out of range
@@ -70,7 +72,7 @@ pub others :
     ∷ Format 31 511 1023
     ∷ Format 0 0 0
     ∷ [])
-unfolding choiceOf lostOf formatStep readStep writeStep evictStep bareStep recoverStep stepBy
+unfolding placeBy lostBy formatStep readStep writeStep evictStep bareStep recoverStep stepBy
 others = refl
 
 -- "A record that breaks this, any other operation": a format with a bit after F, or a second word; a read with a place, a bit after it, or a
@@ -99,12 +101,12 @@ pub malformed :
     ∷ stepOf (word 15 0 0 0) 0
     ∷ [])
     ≡ replicate 20 Malformed
-unfolding choiceOf lostOf formatStep readStep writeStep evictStep bareStep recoverStep stepBy
+unfolding placeBy lostBy formatStep readStep writeStep evictStep bareStep recoverStep stepBy
 malformed = refl
 
 -- "write node 2 item 0 value 7" as bytes, with a byte of the next record, and cut off
 pub bytes-of-a-write : recordOf (34 ∷ replicate 14 0 ++ (7 ∷ 255 ∷ [])) ≡ Asked (Write 2 0 7)
-unfolding choiceOf lostOf formatStep readStep writeStep evictStep bareStep recoverStep stepBy recordOf
+unfolding placeBy lostBy formatStep readStep writeStep evictStep bareStep recoverStep stepBy recordOf
 bytes-of-a-write = refl
 
 -- "a cut-off last record"

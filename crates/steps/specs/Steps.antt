@@ -3,10 +3,8 @@ use Prim.Native.Nat.{ℕ, _/_, _%_, _^_}
 use mathlib.Core.Bool.{cond, _&&_, _||_}
 use lib.Dec.{eqb}
 use Rattle.table.specs.Words.{sizeForm, nodesOf, itemsOf, framesOf}
-use Rattle.homes.specs.declared.places.Place.{Place}
-use Rattle.homes.specs.declared.places.Place.the-variants.{Current, Kept}
-use Rattle.recovery.specs.declared.lost.Lost.{Lost}
-use Rattle.recovery.specs.declared.lost.Lost.the-variants.{Nobody, Node}
+use Rattle.homes.specs.Places.{placeBy}
+use Rattle.recovery.specs.Lost.{lostBy}
 use Rattle.recovery.specs.declared.call.Call.{Call}
 use Rattle.recovery.specs.declared.call.Call.the-variants.{Format, Read, Write, Evict, Open, Create, Commit, Abandon, Recover}
 use Rattle.steps.specs.declared.decode.Step.{Step}
@@ -29,14 +27,6 @@ placeOf first = first / 2 ^ 47 % 2
 abbrev pub restOf : ℕ → ℕ
 restOf first = first % 2 ^ 47
 
--- "place 1 (0 current, 1 kept; ..)"
-unfoldable pub choiceOf : ℕ → Place
-choiceOf first = cond (eqb (placeOf first) 0) Current Kept
-
--- "(..; in Recover 1 means none lost)"
-unfoldable pub lostOf : ℕ → Lost
-lostOf first = cond (eqb (placeOf first) 0) (Node (nodeOf first)) Nobody
-
 -- In each operation: "A field not used is zero, as are the bits after the last field".
 -- "0 format (its first word has the layout of the table's word 0, its second is zero)"
 unfoldable pub formatStep : ℕ → ℕ → Step
@@ -53,10 +43,10 @@ unfoldable pub writeStep : ℕ → ℕ → Step
 writeStep first second =
     cond (eqb (placeOf first) 0 && eqb (restOf first) 0) (Asked (Write (nodeOf first) (itemOf first) second)) Malformed
 
--- "3 evict": a node, an item and a place
+-- "3 evict": a node, an item and a "place 1 (0 current, 1 kept; ..)"
 unfoldable pub evictStep : ℕ → ℕ → Step
 evictStep first second =
-    cond (eqb (restOf first) 0 && eqb second 0) (Asked (Evict (nodeOf first) (itemOf first) (choiceOf first))) Malformed
+    cond (eqb (restOf first) 0 && eqb second 0) (Asked (Evict (nodeOf first) (itemOf first) (placeBy (placeOf first)))) Malformed
 
 -- "4 open, 5 create, 6 commit, 7 abandon": no field
 unfoldable pub bareStep : Call → ℕ → ℕ → Step
@@ -67,13 +57,13 @@ bareStep call first second =
     (Asked call)
     Malformed
 
--- "8 recover": a node and a place; "a Recover of none does not use the node"
+-- "8 recover": a node and a place, "in Recover 1 means none lost"; "a Recover of none does not use the node"
 unfoldable pub recoverStep : ℕ → ℕ → Step
 recoverStep first second =
     cond
     (eqb (itemOf first) 0
     && (eqb (restOf first) 0 && (eqb second 0 && (eqb (placeOf first) 0 || eqb (nodeOf first) 0))))
-    (Asked (Recover (lostOf first)))
+    (Asked (Recover (lostBy (placeOf first) (nodeOf first))))
     Malformed
 
 -- the step of each operation; "any other operation .. gives answer 18"

@@ -1,9 +1,7 @@
 // A record's two words, decoded.
 ghost use mathlib.Core.Path.{_≡_};
-ghost use Rattle.steps.specs.Steps.{nodeOf, itemOf, placeOf, restOf, choiceOf, lostOf, formatStep, readStep, writeStep, evictStep, bareStep, recoverStep, stepOf};
-use homes::places::Place;
+ghost use Rattle.steps.specs.Steps.{nodeOf, itemOf, placeOf, restOf, formatStep, readStep, writeStep, evictStep, bareStep, recoverStep, stepOf};
 use recovery::call::Call;
-use recovery::lost::Lost;
 
 // What a record asks for: a call, or nothing that is in form.
 pub enum Step {
@@ -34,26 +32,6 @@ fn rest_of(first: u64) -> u64
     ensures { λ r. ⌜ r ≡ restOf first ⌝ }
 {
     first % 0x8000_0000_0000
-}
-
-// The place field of an Evict.
-fn choice_of(first: u64) -> Place
-    ensures { λ r. ⌜ r ≡ choiceOf first ⌝ }
-{
-    if place_of(first) == 0 {
-        return Place::Current;
-    }
-    Place::Kept
-}
-
-// The node and place fields of a Recover.
-fn lost_of(first: u64) -> Lost
-    ensures { λ r. ⌜ r ≡ lostOf first ⌝ }
-{
-    if place_of(first) == 0 {
-        return Lost::Node(node_of(first));
-    }
-    Lost::Nobody
 }
 
 // A record of operation 0.
@@ -102,7 +80,7 @@ fn evict_step(first: u64, second: u64) -> Step
     ensures { λ r. ⌜ r ≡ evictStep first second ⌝ }
 {
     if (rest_of(first) == 0) & (second == 0) {
-        let place = choice_of(first);
+        let place = homes::places::place_by(place_of(first));
         return Step::Asked(Call::Evict {
             node: node_of(first),
             item: item_of(first),
@@ -133,7 +111,7 @@ fn recover_step(first: u64, second: u64) -> Step
         & ((rest_of(first) == 0)
             & ((second == 0) & ((place_of(first) == 0) | (node_of(first) == 0))))
     {
-        let lost = lost_of(first);
+        let lost = recovery::lost::lost_by(place_of(first), node_of(first));
         return Step::Asked(Call::Recover { lost });
     }
     Step::Malformed

@@ -12,5 +12,6 @@ evict-step-spec =
     (λ c κs. search needs)
     (λ c κs. search needs)
     (λ c κs. search needs)
+    (λ c κs. search needs)
     (λ c. search evict-kept)
     (λ c. search evict-broken))

@@ -13,5 +13,7 @@ recover-step-spec =
     (λ c κs. search needs)
     (λ c κs. search needs)
     (λ c κs. search needs)
+    (λ c κs. search needs)
+    (λ c κs. search needs)
     (λ c. search recover-kept)
     (λ c. search recover-broken))
