@@ -19,7 +19,7 @@ use Rattle.checkpoints.specs.Abandon.{abandonOf}
 use Rattle.recovery.specs.Recover.{recoverOf}
 use Rattle.recovery.specs.RecoverCode.{RecoverMeets}
 use Rattle.recovery.specs.CallCode.{CarriedOut}
-use Rattle.recovery.specs.Rehearsal.{Rehearsed}
+use Rattle.recovery.specs.Rehearsed.{Rehearsed}
 use Rattle.entries.proofs.format.format as format
 use Rattle.entries.proofs.format.format.Kinds as format-kinds
 use Rattle.entries.proofs.format.format.Reads as format-reads

@@ -13,7 +13,7 @@ use Rattle.entries.specs.CheckFacts.{Shape, facts-sizes}
 use Rattle.homes.specs.SoundKept.{shape-after}
 use Rattle.recovery.specs.declared.lost.Lost.{Lost}
 use Rattle.recovery.specs.Survivors.{survivors, lostOutside}
-use Rattle.recovery.specs.Recover.{tooFew, recoverOf}
+use Rattle.recovery.specs.Recover.{scratchWords, tooFew, recoverOf}
 use Rattle.recovery.specs.RecoverPlan.{few-refused}
 use Rattle.recovery.specs.RecoverOff.{recover-off}
 use Rattle.recovery.specs.Ready.{Ready, Going}
@@ -31,7 +31,7 @@ module _ (g : Geometry) (saved : ℕ → ℕ) (number : ℕ) (lost : Lost) (insi
 
   -- one more
   attempt :
-      (t : List ℕ) → Shape t g → Ready g saved number (survivors lost (view g t)) → (a : Attempt g)
+      (t : List ℕ) → Shape t g → Ready g saved number (survivors lost (view g t)) → (a : Attempt (scratchWords g))
       → Attempted g saved number lost t (tableOf (recoverOf t lost (a .scratch)) (a .limit) t)
   attempt t s r a = by-cases (tooFew g (survivors lost (view g t)))
       (λ few. rw (few-refused t lost (a .scratch) passed few .plan) (nothing-done t s r))
@@ -44,7 +44,7 @@ module _ (g : Geometry) (saved : ℕ → ℕ) (number : ℕ) (lost : Lost) (insi
       passed = facts-sizes t g s
 
   pub attempts :
-      (made : List (Attempt g)) (t : List ℕ) → Shape t g → Ready g saved number (survivors lost (view g t))
+      (made : List (Attempt (scratchWords g))) (t : List ℕ) → Shape t g → Ready g saved number (survivors lost (view g t))
       → Attempted g saved number lost t (brokenOff lost made t)
   unfolding brokenOff
   attempts [] t s r = nothing-done t s r

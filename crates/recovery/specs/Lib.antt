@@ -19,6 +19,7 @@ pub mod History
 pub mod Demand2
 pub mod Demand3
 pub mod Rehearsal
+pub mod Rehearsed
 -- ---- the ways of the code
 pub mod SurvivorsCode
 pub mod SidesCode
@@ -87,6 +88,7 @@ pub mod CallLengths
 pub mod RecoverLength
 pub mod WholeAt
 -- ---- the rehearsal, and the examples
+pub mod RehearsalHit
 pub mod RehearseCode
 pub mod RehearsalExample
 pub mod Examples

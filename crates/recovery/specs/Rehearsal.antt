@@ -1,16 +1,15 @@
--- A REHEARSAL: demand 3, carried out by the code on a lent table. What it is given, as words; the tables that it goes through; what it owes.
-use Prim.Native.Nat.{ℕ, zero, suc, _+_, _-_, _*_, _/_, _≤_, _<_, min}
+-- A REHEARSAL: demand 3, carried out by the code on a lent table. What it is given, as words; the tables that it goes through; what makes it a strike.
+use Prim.Native.Nat.{ℕ, zero, suc, _+_, _-_, _*_, _/_, _≤_, min}
 use mathlib.Core.Path.{_≡_}
-use mathlib.Core.Bool.{Bool, true, false, cond, _&&_}
+use mathlib.Core.Bool.{true, cond}
 use mathlib.Core.List.{List, [], _∷_, _++_}
+use native.Mathlib.Omega.{arith}
 use lib.Dec.{eqb, ltb}
 use lib.ListN.{length, getD, set}
 use Rattle.table.specs.declared.geometry.Geometry.{Geometry}
-use Rattle.table.specs.declared.answers.Answer.{Answer}
-use Rattle.table.specs.declared.answers.Answer.the-variants.{Done}
 use Rattle.table.specs.Geometry.{entryWords, markAt, entryAt}
-use Rattle.table.specs.View.{View, view, live}
-use Rattle.table.specs.Answers.{Plan, answerOf, tableOf}
+use Rattle.table.specs.View.{view}
+use Rattle.table.specs.Answers.{Plan, tableOf}
 use Rattle.entries.specs.declared.check.Checked.{Checked}
 use Rattle.entries.specs.declared.check.Checked.the-variants.{Passed, Failed}
 use Rattle.entries.specs.Check.{sizesOf}
@@ -20,12 +19,9 @@ use Rattle.recovery.specs.declared.lost.Lost.the-variants.{Nobody, Node}
 use Rattle.recovery.specs.declared.call.Call.{Call}
 use Rattle.recovery.specs.declared.call.Call.the-variants.{Format, Check, Stretch, Read, Write, Evict, Open, Create, Commit, Abandon, Recover}
 use Rattle.recovery.specs.Lost.{lostBy}
-use Rattle.recovery.specs.Survivors.{survivors, carries}
-use Rattle.recovery.specs.Recover.{scratchWords, tooFew, recoverOf}
-use Rattle.recovery.specs.Memory.{Memory, zeros, carried, savedIn}
-use Rattle.recovery.specs.Run.{Step, geometryIn, storeCount, wholeTable, planAt, run, toPoint, commitsFrom, memoryFrom, Formatted}
-use Rattle.recovery.specs.Strike.{canBeCut, isCommit, liveOrNone}
-use Rattle.recovery.specs.OneItem.{OnTwoNodes, HasValue}
+use Rattle.recovery.specs.Recover.{scratchWords, recoverOf}
+use Rattle.recovery.specs.Run.{Step, geometryIn, wholeTable, planAt, run, Formatted}
+use Rattle.recovery.specs.Strike.{canBeCut, liveOrNone, Attempt, brokenOff}
 
 -- ---- the list of calls: five words a call, its operation, three arguments and a flag. The flag of an Evict is its place (0 current, else kept), that of a
 -- Recover says that none was lost (0: the node of the first argument, else none).
@@ -85,11 +81,15 @@ unfoldable pub hitBy : Lost → List ℕ → List ℕ → List ℕ
 hitBy Nobody words t = t
 hitBy (Node n) words t = hitSized (sizesOf t) n words t
 
--- ---- the recoveries, broken off at the given limits
+-- ---- the recoveries, broken off at the given limits: each gets the same scratch
 
-unfoldable pub brokenAt : Lost → ℕ → List ℕ → List ℕ → List ℕ
-brokenAt lost scratch [] t = t
-brokenAt lost scratch (limit ∷ limits) t = brokenAt lost scratch limits (tableOf (recoverOf t lost scratch) limit t)
+unfoldable pub attemptsAt : {least : ℕ} (scratch : ℕ) → least ≤ scratch → List ℕ → List (Attempt least)
+attemptsAt scratch enough [] = []
+attemptsAt scratch enough (limit ∷ limits) = record { limit = limit; scratch = scratch; enough = enough } ∷ attemptsAt scratch enough limits
+
+-- any scratch
+abbrev pub brokenAt : Lost → ℕ → List ℕ → List ℕ → List ℕ
+brokenAt lost scratch limits t = brokenOff lost (attemptsAt {least = 0} scratch (omega arith) limits) t
 
 -- ---- the rehearsal
 
@@ -135,45 +135,9 @@ module _ (t₀ : List ℕ) (p : Script) where
   abbrev pub recovered : List ℕ
   recovered = wholeTable lastRecovery attempted
 
-  -- what demand 3 speaks of
-  abbrev pub geometry : Geometry
-  geometry = geometryIn before
-
-  abbrev pub surviving : View
-  surviving = survivors (p .lost) (view geometry cut)
-
-  abbrev pub commitCounts : Bool
-  commitCounts = isCommit (p .call) && carries geometry (commitsFrom 0 t₀ wholeCalls + 1) surviving
-
-  -- the plain memory: "fed the list, then a cut commit exactly when 3 finishes it, then the recovery"
-  abbrev pub memory : Formatted t₀ → Memory
-  memory formatted =
-      let fedList = memoryFrom (zeros (formatted .items)) t₀ wholeCalls in
-      carried (Recover (p .lost)) (cond commitCounts (carried Commit fedList) fedList)
-
-  abbrev pub undisturbed : List ℕ
-  undisturbed = run t₀ (cond commitCounts (wholeCalls ++ (next ∷ [])) (toPoint t₀ wholeCalls))
-
-  -- the demand's conditions
+  -- what makes it a strike on a formatted table
   pub record Demanded : Type 0 where
     pub formatted : Formatted t₀
     pub cuttable : canBeCut (p .call) ≡ true
-    pub one : liveOrNone (view geometry cut) (p .lost) ≡ true
-    pub enough : scratchWords geometry ≤ p .scratch
-    pub room : tooFew geometry (survivors (p .lost) (view geometry struck)) ≡ false
-
-  -- the demand
-  pub record Restores (formatted : Formatted t₀) (t′ : List ℕ) (r : Answer) : Type 0 where
-    -- "recovery is carried out"
-    pub carried-out : r ≡ Done 0 (storeCount lastRecovery)
-    -- "and leaves each item on exactly two distinct live nodes, .. which document 01's plain memory has saved"
-    pub restored : (b : ℕ) → b < geometry .items → OnTwoNodes (view geometry t′) b (savedIn (memory formatted) b)
-    pub live-nodes : (n : ℕ) → live (view geometry t′) n ≡ live surviving n
-    -- "at the undisturbed run's value"
-    pub undisturbed-value : (b : ℕ) → b < geometry .items → HasValue (view geometry undisturbed) b (savedIn (memory formatted) b)
-
--- THE CONTRACT: the table and the answer are those of the last recovery, for any script and table; and the demand
-pub record Rehearsed (p : Script) (t₀ t′ : List ℕ) (r : Answer) : Type 0 where
-  pub table : t′ ≡ recovered t₀ p
-  pub answer : r ≡ answerOf (lastRecovery t₀ p) (storeCount (lastRecovery t₀ p))
-  pub demand : (d : Demanded t₀ p) → Restores t₀ p (d .formatted) t′ r
+    pub one : liveOrNone (view (geometryIn before) cut) (p .lost) ≡ true
+    pub enough : scratchWords (geometryIn before) ≤ p .scratch

@@ -1,28 +1,25 @@
--- The rehearsal as its code goes: a law for each turn of its loops, and the strike that it is, so that demand 3 speaks of it.
-use Prim.Native.Nat.{ℕ, zero, suc, _+_, _-_, _*_, _^_, _≤_, _<_, min}
-use mathlib.Core.Path.{_≡_, refl, sym, ap, _∙_, subst}
+-- The rehearsal as its code goes: a law for each turn of its loops, and demand 3 of the strike that it is.
+use Prim.Native.Nat.{ℕ, _+_, _-_, _*_, _^_, _≤_, _<_, min}
+use mathlib.Core.Path.{_≡_, refl, sym, ap, _∙_}
 use mathlib.Core.Logic.{_≢_}
 use mathlib.Core.Bool.{true, false}
 use mathlib.Core.List.{List, [], _∷_}
 use native.Mathlib.Omega.{arith}
 use native.Mathlib.Numerals.{add-one}
-use lib.Dec.{eqb, ltb}
-use lib.ListN.{length, getD, drop, length-set}
-use lib.Seq.{getD-set-other, drop-cons, drop-length}
-use borrow.Author.Tests.{eqb-false, eq-eqb, ne-eqb, le-leb, lt-ltb, le-ltb}
-use Rattle.counting.specs.Tests.{by-cases, no-both, and-both, or-left, or-right}
+use lib.ListN.{length, getD, drop}
+use lib.Seq.{drop-cons, drop-length}
+use borrow.Author.Tests.{ne-eqb, lt-ltb, le-ltb}
+use Rattle.counting.specs.Tests.{no-both}
 use Rattle.table.specs.declared.geometry.Geometry.{Geometry}
 use Rattle.table.specs.declared.answers.Answer.{Answer}
 use Rattle.table.specs.declared.answers.Answer.the-variants.{Done}
 use Rattle.table.specs.declared.answers.Refusal.{Refusal}
-use Rattle.table.specs.Geometry.{markAt, entryAt, Placed}
+use Rattle.table.specs.Geometry.{Placed}
 use Rattle.table.specs.Stores.{Wrote, written}
-use Rattle.table.specs.View.{view, live}
 use Rattle.table.specs.Answers.{Plan, refuse, nothingLeft, carry, answerOf, tableOf}
 use Rattle.entries.specs.declared.check.Checked.{Checked}
 use Rattle.entries.specs.declared.check.Checked.the-variants.{Passed, Failed}
 use Rattle.entries.specs.Check.{sizesOf}
-use Rattle.entries.specs.CheckFacts.{Shape, facts-sizes}
 use Rattle.homes.specs.declared.places.Place.{Place}
 use Rattle.homes.specs.Places.{placeBy}
 use Rattle.recovery.specs.declared.lost.Lost.{Lost}
@@ -30,24 +27,20 @@ use Rattle.recovery.specs.declared.lost.Lost.the-variants.{Nobody, Node}
 use Rattle.recovery.specs.declared.call.Call.{Call}
 use Rattle.recovery.specs.declared.call.Call.the-variants.{Format, Check, Stretch, Read, Write, Evict, Open, Create, Commit, Abandon, Recover}
 use Rattle.recovery.specs.Lost.{lostBy}
-use Rattle.recovery.specs.Recover.{scratchWords, recoverOf}
+use Rattle.recovery.specs.Recover.{recoverOf}
 use Rattle.recovery.specs.RecoverPlan.{recover-carries, carries-recover}
 use Rattle.recovery.specs.RecoverCode.{RecoverMeets}
 use Rattle.recovery.specs.Call.{planOf, accepted}
 use Rattle.recovery.specs.CallCode.{CarriedOut}
-use Rattle.recovery.specs.Memory.{savedIn}
 use Rattle.recovery.specs.Run.{storeCount, wholeTable, tableBy, run}
-use Rattle.recovery.specs.RunPoints.{run-history, run-one}
-use Rattle.recovery.specs.Strike.{liveOrNone, ofNode, Hit, Attempt, brokenOff, Strike}
+use Rattle.recovery.specs.RunPoints.{run-one}
+use Rattle.recovery.specs.Strike.{brokenOff, fourteen}
 use Rattle.recovery.specs.Strike as strikes
-use Rattle.recovery.specs.History.{begun}
-use Rattle.recovery.specs.HistoryTheorem.{history-good}
-use Rattle.recovery.specs.CutShape.{cut-shape}
 use Rattle.recovery.specs.WholeAt.{whole-at, whole-count}
 use Rattle.recovery.specs.Demand3.{Restored}
 use Rattle.recovery.specs.Demand3Theorem.{demand3}
-use Rattle.recovery.specs.OneItem.{OnTwoNodes}
-use Rattle.recovery.specs.Rehearsal.{callAt, callBy, callCount, stepsTo, nodeWordAt, nodeWords, putTo, hitNode, hitSized, hitBy, brokenAt, Script, wholeCalls, next, before, cut, struck, attempted, lastRecovery, recovered, geometry, surviving, memory, Demanded, Restores, Rehearsed}
+use Rattle.recovery.specs.Rehearsal.{callAt, callBy, callCount, stepsTo, nodeWordAt, nodeWords, putTo, hitNode, hitSized, hitBy, attemptsAt, brokenAt, Script, wholeCalls, struck, attempted, lastRecovery, recovered, Demanded}
+use Rattle.recovery.specs.Rehearsed.{strike, Restores, Rehearsed}
 
 -- ---- a call of its words
 
@@ -157,34 +150,10 @@ pub put-next :
 unfolding putTo written
 put-next g n words t i e a w o = rw (add-one, ← e, ← a, ← w) (o .table)
 
-put-length : (g : Geometry) (n : ℕ) (words : List ℕ) (k : ℕ) (t : List ℕ) → length (putTo g n words k t) ≡ length t
-unfolding putTo
-put-length g n words zero t = refl
-put-length g n words (suc k) t = length-set (putTo g n words k t) (nodeWordAt g n k) (getD words k 0) ∙ put-length g n words k t
-
 pub put-end :
     (g : Geometry) (n : ℕ) (words t : List ℕ) {i k : ℕ} {t₁ : List ℕ} → i ≤ k → k ≤ i → k ≡ min (length words) (nodeWords g) → t₁ ≡ putTo g n words i t
     → t₁ ≡ putTo g n words (min (length words) (nodeWords g)) t
 put-end g n words t {i} a b c e = let d : i ≡ min (length words) (nodeWords g) = omega arith in rw d at e
-
--- a word that is none of the node's
-module _ (g : Geometry) (n i : ℕ) (out : ofNode g n i ≡ false) where
-  not-mark : i ≢ markAt n
-  not-mark e = no-both (or-left _ (eq-eqb i (markAt n) e)) out
-
-  not-entry : (k : ℕ) → k < nodeWords g - 1 → i ≢ entryAt g n 0 + k
-  not-entry k h e =
-      no-both (or-right (eqb i (markAt n)) (and-both (le-leb (entryAt g n 0) i (omega arith)) (lt-ltb i (entryAt g (n + 1) 0) (omega arith)))) out
-
-  not-there : (k : ℕ) → k < nodeWords g → i ≢ nodeWordAt g n k
-  unfolding nodeWordAt
-  not-there k h = by-cases (eqb k 0) (λ z. rw z not-mark) (λ z. rw z (let d : k ≢ 0 = eqb-false k 0 z in not-entry (k - 1) (omega arith)))
-
-  put-rest : (words : List ℕ) (k : ℕ) (t : List ℕ) → k ≤ nodeWords g → getD (putTo g n words k t) i 0 ≡ getD t i 0
-  unfolding putTo
-  put-rest words zero t h = refl
-  put-rest words (suc k) t h =
-      getD-set-other (putTo g n words k t) (nodeWordAt g n k) i (getD words k 0) 0 (not-there k (omega arith)) ∙ put-rest words k t (omega arith)
 
 -- the ways of the code
 pub hit-there : (g : Geometry) (n : ℕ) (words t : List ℕ) {t₁ : List ℕ} → n < g .nodes → t₁ ≡ putTo g n words (min (length words) (nodeWords g)) t → t₁ ≡ hitNode g n words t
@@ -214,21 +183,6 @@ pub struck-is :
     → t₂ ≡ hitBy lost words t₁ → t₂ ≡ hitBy lost words (tableOf (planOf t (length s) call) limit t)
 struck-is lost words o e = e ∙ ap (hitBy lost words) (o .meets .table)
 
--- what it leaves
-hit-node-length : (g : Geometry) (n : ℕ) (words t : List ℕ) → length (hitNode g n words t) ≡ length t
-unfolding hitNode
-hit-node-length g n words t = by-cases (ltb n (g .nodes)) (λ e. rw e (put-length g n words _ t)) (λ e. rw e refl)
-
-hit-node-rest : (g : Geometry) (n : ℕ) (words t : List ℕ) (i : ℕ) → ofNode g n i ≡ false → getD (hitNode g n words t) i 0 ≡ getD t i 0
-unfolding hitNode
-hit-node-rest g n words t i out = by-cases (ltb n (g .nodes)) (λ e. rw e (put-rest g n i out words _ t (omega arith))) (λ e. rw e refl)
-
-pub hit-is : (g : Geometry) (lost : Lost) (words t : List ℕ) → Shape t g → liveOrNone (view g t) lost ≡ true → Hit g lost t (hitBy lost words t)
-unfolding hitBy hitSized
-hit-is g Nobody words t s one = record { one = one; size = refl; rest = λ i out. refl }
-hit-is g (Node n) words t s one =
-    rw (facts-sizes t g s) (record { one = one; size = hit-node-length g n words t; rest = λ i out. hit-node-rest g n words t i out })
-
 -- ---- the recoveries that are broken off
 
 pub broken-none : (lost : Lost) (scratch : ℕ) (limits t : List ℕ) → brokenAt lost scratch (drop 0 limits) t ≡ brokenAt lost scratch limits t
@@ -238,25 +192,22 @@ pub broken-next :
     (lost : Lost) (limits t : List ℕ) (i : ℕ) {scratch limit : ℕ} {t₁ t₂ s s₂ : List ℕ} {r : Answer} → i < length limits → length s ≡ scratch
     → brokenAt lost scratch (drop i limits) t₁ ≡ brokenAt lost scratch limits t → limit ≡ getD limits i 0
     → RecoverMeets (recoverOf t₁ lost (length s)) limit t₁ t₂ s s₂ r → brokenAt lost scratch (drop (i + 1) limits) t₂ ≡ brokenAt lost scratch limits t
-unfolding brokenAt
+unfolding brokenOff attemptsAt
 broken-next lost limits t i h n e l o = rw (add-one, o .meets .table, l, n) (rw (drop-cons limits i 0 h) at e)
 
 pub broken-end :
     (lost : Lost) (scratch : ℕ) (limits t : List ℕ) {i : ℕ} {t₁ : List ℕ} → i ≤ length limits → length limits ≤ i
     → brokenAt lost scratch (drop i limits) t₁ ≡ brokenAt lost scratch limits t → t₁ ≡ brokenAt lost scratch limits t
-unfolding brokenAt
+unfolding brokenOff attemptsAt
 broken-end lost scratch limits t {i} h k e = let n : i ≡ length limits = omega arith in rw (n, drop-length limits) at e
 
--- the same as the demand has them
-module _ (g : Geometry) (scratch : ℕ) (enough : scratchWords g ≤ scratch) where
-  unfoldable pub attemptsAt : List ℕ → List (Attempt g)
-  attemptsAt [] = []
-  attemptsAt (l ∷ ls) = record { limit = l; scratch = scratch; enough = enough } ∷ attemptsAt ls
-
-  attempts-are : (lost : Lost) (limits t : List ℕ) → brokenOff lost (attemptsAt limits) t ≡ brokenAt lost scratch limits t
-  unfolding brokenOff brokenAt attemptsAt
-  attempts-are lost [] t = refl
-  attempts-are lost (l ∷ ls) t = attempts-are lost ls (tableOf (recoverOf t lost scratch) l t)
+-- whatever is known of the scratch
+attempts-same :
+    (lost : Lost) (scratch : ℕ) {m n : ℕ} (h : m ≤ scratch) (k : n ≤ scratch) (limits t : List ℕ)
+    → brokenOff lost (attemptsAt scratch h limits) t ≡ brokenOff lost (attemptsAt scratch k limits) t
+unfolding brokenOff attemptsAt
+attempts-same lost scratch h k [] t = refl
+attempts-same lost scratch h k (l ∷ ls) t = attempts-same lost scratch h k ls (tableOf (recoverOf t lost scratch) l t)
 
 -- ---- the answer of a whole recovery
 
@@ -283,42 +234,23 @@ module _ (t : List ℕ) (lost : Lost) (scratch : ℕ) where
       go nothingLeft e = refl
       go (carry g x ss) e = ap (Done x) (whole-count t scratch (Recover lost) limit large e ∙ omega arith)
 
--- ---- the strike, and the demand
+-- ---- the demand
 
-module _ (t₀ : List ℕ) (p : Script) (d : Demanded t₀ p) where
-  pub cut-is : Shape (cut t₀ p) (geometry t₀ p)
-  cut-is =
-      cut-shape (before t₀ p) _ _ (history-good (run-history (wholeCalls t₀ p) (begun t₀ (d .formatted)))) (p .call) (p .scratch) (p .limit) (d .cuttable)
+module _ (t₀ : List ℕ) (p : Script) (d : Demanded t₀ p) (room : fourteen (strike t₀ p d) ≡ false) where
+  there : Restored t₀ (d .formatted) (wholeCalls t₀ p) (strike t₀ p d)
+  there = demand3 t₀ (d .formatted) (wholeCalls t₀ p) (strike t₀ p d) room
 
-  abbrev pub strike : Strike (run t₀ (wholeCalls t₀ p))
-  strike = record {
-    cut = record { next = next t₀ p; cuttable = d .cuttable; limit = p .limit };
-    lost = p .lost;
-    struck = struck t₀ p;
-    hit = hit-is (geometry t₀ p) (p .lost) (p .words) (cut t₀ p) cut-is (d .one);
-    broken = attemptsAt (geometry t₀ p) (p .scratch) (d .enough) (p .limits);
-    scratch = p .scratch;
-    enough = d .enough;
-  }
-
-  there : Restored t₀ (d .formatted) (wholeCalls t₀ p) strike
-  there = demand3 t₀ (d .formatted) (wholeCalls t₀ p) strike (d .room)
-
-  same-attempts : strikes.attempted strike ≡ attempted t₀ p
-  same-attempts = attempts-are (geometry t₀ p) (p .scratch) (d .enough) (p .lost) (p .limits) (struck t₀ p)
-
-  same : strikes.recovered strike ≡ recovered t₀ p
-  same = ap (λ t. wholeTable (recoverOf t (p .lost) (p .scratch)) t) same-attempts
+  same : attempted t₀ p ≡ strikes.attempted (strike t₀ p d)
+  same = attempts-same (p .lost) (p .scratch) _ (d .enough) (p .limits) (struck t₀ p)
 
   accepts : accepted (lastRecovery t₀ p) ≡ true
-  accepts = subst (λ t. accepted (recoverOf t (p .lost) (p .scratch)) ≡ true) same-attempts (there .carried-out)
+  accepts = rw same (there .carried-out)
 
-  pub restores : Restores t₀ p (d .formatted) (recovered t₀ p) (answerOf (lastRecovery t₀ p) (storeCount (lastRecovery t₀ p)))
+  pub restores : Restores t₀ p d (recovered t₀ p) (answerOf (lastRecovery t₀ p) (storeCount (lastRecovery t₀ p)))
   restores = record {
-    carried-out = done-by (attempted t₀ p) (p .lost) (p .scratch) (lastRecovery t₀ p) refl accepts;
-    restored = λ b h. subst (λ t. OnTwoNodes (view (geometry t₀ p) t) b (savedIn (memory t₀ p (d .formatted)) b)) same (there .restored b h);
-    live-nodes = λ n. subst (λ t. live (view (geometry t₀ p) t) n ≡ live (surviving t₀ p) n) same (there .live-nodes n);
-    undisturbed-value = there .undisturbed-value;
+    table = rw same refl;
+    answer = done-by (attempted t₀ p) (p .lost) (p .scratch) (lastRecovery t₀ p) refl accepts ∙ rw same refl;
+    restored = there;
   }
 
 -- ---- THE CONTRACT
@@ -333,7 +265,7 @@ pub rehearsed :
 rehearsed p s₁ s₂ {t₀} {t₁} {t₂} {t₃} {t₄} {r = r} n₁ n₂ n₃ a b c o = record {
   table = table;
   answer = answer;
-  demand = λ d. rw (table, answer) (restores t₀ p d);
+  demand = λ d room. rw (table, answer) (restores t₀ p d room);
 }
   where
     tried : t₃ ≡ attempted t₀ p

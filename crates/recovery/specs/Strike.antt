@@ -78,13 +78,13 @@ pub record Hit (g : Geometry) (lost : Lost) (t t′ : List ℕ) : Type 0 where
 
 -- ---- the recoveries: "begun again with the same name wherever and however often it is broken off"
 
--- one that is broken off: any limit, and scratch enough
-pub record Attempt (g : Geometry) : Type 0 where
+-- one that is broken off: any limit, and scratch enough, which is so many words
+pub record Attempt (least : ℕ) : Type 0 where
   pub limit : ℕ
   pub scratch : ℕ
-  pub enough : scratchWords g ≤ scratch
+  pub enough : least ≤ scratch
 
-unfoldable pub brokenOff : {g : Geometry} → Lost → List (Attempt g) → List ℕ → List ℕ
+unfoldable pub brokenOff : {least : ℕ} → Lost → List (Attempt least) → List ℕ → List ℕ
 brokenOff lost [] t = t
 brokenOff lost (a ∷ rest) t = brokenOff lost rest (tableOf (recoverOf t lost (a .scratch)) (a .limit) t)
 
@@ -98,7 +98,7 @@ pub record Strike (t : List ℕ) : Type 0 where
   pub struck : List ℕ
   pub hit : Hit (geometryIn t) lost (cutTable t cut) struck
   -- the recoveries that are broken off, none or many
-  pub broken : List (Attempt (geometryIn t))
+  pub broken : List (Attempt (scratchWords (geometryIn t)))
   -- the scratch of the whole one
   pub scratch : ℕ
   pub enough : scratchWords (geometryIn t) ≤ scratch
