@@ -1,19 +1,19 @@
 -- Format: "all 1 + N + 3 × N × M words, ascending; other words untouched. All values 0. Item b is Shared-CK1 on node 2b mod N and Shared-CK2
 -- on (2b + 1) mod N. Phase 0, number 0."
 use Prim.Native.Nat.{ℕ, _+_, _*_, _/_, _%_, _<_, _≤_}
-use mathlib.Core.Path.{_≡_, sym, ap}
+use mathlib.Core.Path.{_≡_}
 use mathlib.Core.Bool.{cond}
 use mathlib.Core.List.{List, [], _∷_, _++_, map}
 use lib.Dec.{eqb, leb}
 use lib.ListN.{length}
-use borrow.Author.Tests.{eq-eqb, ne-eqb, le-leb, lt-leb}
+use borrow.Author.Tests.{le-leb, lt-leb}
 use Rattle.table.specs.declared.geometry.Geometry.{Geometry}
 use Rattle.table.specs.declared.geometry.Made.{Made}
 use Rattle.table.specs.declared.geometry.Made.the-variants.{Allowed, NotAllowed}
 use Rattle.table.specs.declared.answers.Refusal.the-variants.{EmptyOrShort, NoGeometry}
 use Rattle.table.specs.Words.{invalid, sharedCK1, sharedCK2, markWord}
 use Rattle.table.specs.Geometry.{geometryOf, wordsOf}
-use Rattle.table.specs.Stores.{Change, stateTo, valueTo, keptTo, Store, sizeStore, markStore, entryStore, runs, Stored, StoredIn, stored-as, nested-flat, stored-then}
+use Rattle.table.specs.Stores.{Change, stateTo, valueTo, keptTo, Store, sizeStore, markStore, entryStore, runs, Stored, nested-flat, stored-then}
 use Rattle.table.specs.Pass.{pass}
 use Rattle.table.specs.Answers.{Plan, refuse, carry}
 
@@ -50,25 +50,6 @@ abbrev pub formatOf : List ℕ → ℕ → ℕ → ℕ → Plan
 formatOf t nodes items frames = formatMade t (geometryOf nodes items frames)
 
 -- ---- the ways of the code
-
--- the place of an item
-module _ (N n b : ℕ) {first second : ℕ} (p : first ≡ 2 * b % N) (q : second ≡ (2 * b + 1) % N) where
-  pub place-first : n ≡ first → sharedCK1 ≡ firstPlace N n b
-  place-first e = rw (← p, eq-eqb n first e)
-
-  pub place-second : (n ≡ first → ⊥) → n ≡ second → sharedCK2 ≡ firstPlace N n b
-  place-second d e = rw (← p, ← q, ne-eqb n first d, eq-eqb n second e)
-
-  pub place-none : (n ≡ first → ⊥) → (n ≡ second → ⊥) → invalid ≡ firstPlace N n b
-  place-none d e = rw (← p, ← q, ne-eqb n first d, ne-eqb n second e)
-
--- the words of an entry
-pub entry-then :
-    {g : Geometry} {n b place left left₁ left₂ left₃ : ℕ} {t t₁ t₂ t₃ : List ℕ} → place ≡ firstPlace (g .nodes) n b
-    → StoredIn g left n b (stateTo place invalid ∷ []) t t₁ left₁ → StoredIn g left₁ n b (valueTo 0 ∷ []) t₁ t₂ left₂
-    → StoredIn g left₂ n b (keptTo 0 ∷ []) t₂ t₃ left₃ → StoredIn g left n b (firstEntry g n b) t t₃ left₃
-entry-then {n = n} {b} p first second third =
-    stored-as (ap (λ x. map (entryStore n b) (stateTo x invalid ∷ valueTo 0 ∷ keptTo 0 ∷ [])) (sym p)) (stored-then first (stored-then second third))
 
 -- the entries, as two loops, one in the other
 pub entries-nested :

@@ -18,6 +18,7 @@ pub mod SoundFacts
 pub mod CheckFacts
 pub mod Unread
 pub mod Format
+pub mod FormatRow
 pub mod FirstPlaces
 pub mod FormatTheorem
 pub mod Stretch

@@ -1,10 +1,9 @@
 // Format: a fresh table of a geometry.
-ghost use mathlib.Core.Path.{_≡_};
 ghost use mathlib.Core.List.{map};
-ghost use Prim.Native.Nat.{_<_};
-ghost use Rattle.table.specs.Stores.{Stored, StoredIn, entryStore, runs};
+ghost use Prim.Native.Nat.{_<_, _≤_};
+ghost use Rattle.table.specs.Stores.{Stored, entryStore, runs};
 ghost use Rattle.table.specs.Answers.{Meets};
-ghost use Rattle.entries.specs.Format.{firstPlace, firstEntry, firstMark, firstEntries, formatStores, formatOf};
+ghost use Rattle.entries.specs.Format.{firstEntry, firstMark, firstEntries, formatStores, formatOf};
 use table::answers::Answer;
 use table::answers::Refusal;
 use table::geometry::Geometry;
@@ -12,54 +11,27 @@ use table::geometry::Made;
 use table::stores;
 use table::words;
 
-// The current place of an item at a node: Shared-CK1 on node 2b mod N, Shared-CK2 on the next.
-fn first_place(g: Geometry, node: u8, item: u16) -> u8
-    requires { ⌜ 0 < g .nodes ⌝ }
-    ensures { λ r. ⌜ r ≡ firstPlace (g .nodes) node item ⌝ }
-{
-    let nodes = g.nodes as u64;
-    let twice = 2 * (item as u64);
-    let first = twice % nodes;
-    let second = (twice + 1) % nodes;
-    let node = node as u64;
-    if node == first {
-        return words::SHARED_CK1;
-    }
-    if node == second {
-        return words::SHARED_CK2;
-    }
-    words::INVALID
-}
-
-// The three words of an entry.
-fn format_entry(table: &mut [u64], left: u64, g: Geometry, node: u8, item: u16) -> u64
-    requires { ⌜ 0 < g .nodes ⌝ }
-    ensures { λ r. ⌜ StoredIn g left node item (firstEntry g node item) (now (table .entry)) (now (table .exit)) r ⌝ }
-{
-    let place = first_place(g, node, item);
-    let left = stores::store_state(table, left, g, node, item, place, words::INVALID);
-    let left = stores::store_value(table, left, g, node, item, 0);
-    stores::store_kept(table, left, g, node, item, 0)
-}
-
-// The entries of a node, items ascending.
+// The entries of a node, items ascending: Shared-CK1 on node 2b mod N, Shared-CK2 on the next. The node is `node` ahead of node 0, where item 0
+// has its first copy.
 fn format_node(table: &mut [u64], left: u64, g: Geometry, node: u8) -> u64
-    requires { ⌜ 0 < g .nodes ⌝ }
+    requires { ⌜ (2 ≤ g .nodes) × (node < g .nodes) ⌝ }
     ensures { λ r. ⌜ Stored g left (runs (λ b. map (entryStore node b) (firstEntry g node b)) (g .items)) (now (table .entry)) (now (table .exit)) r ⌝ }
 {
-    let items = g.items;
-    let mut left = left;
-    let mut item: u16 = 0;
-    while item < items {
-        left = format_entry(table, left, g, node, item);
-        item += 1;
-    }
-    left
+    let around = g.nodes - 2;
+    stores::store_row(
+        table,
+        left,
+        g,
+        node,
+        words::SHARED_CK1,
+        words::SHARED_CK2,
+        around,
+    )
 }
 
 // The entries of all nodes, ascending.
 fn format_nodes(table: &mut [u64], left: u64, g: Geometry) -> u64
-    requires { ⌜ 0 < g .nodes ⌝ }
+    requires { ⌜ 2 ≤ g .nodes ⌝ }
     ensures { λ r. ⌜ Stored g left (firstEntries g) (now (table .entry)) (now (table .exit)) r ⌝ }
 {
     let nodes = g.nodes;
@@ -89,7 +61,7 @@ fn format_marks(table: &mut [u64], left: u64, g: Geometry) -> u64
 
 // All words, ascending.
 fn format_words(table: &mut [u64], left: u64, g: Geometry) -> u64
-    requires { ⌜ 0 < g .nodes ⌝ }
+    requires { ⌜ 2 ≤ g .nodes ⌝ }
     ensures { λ r. ⌜ Stored g left (formatStores g) (now (table .entry)) (now (table .exit)) r ⌝ }
 {
     let left = stores::store_size(table, left, g);

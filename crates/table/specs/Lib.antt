@@ -4,6 +4,7 @@ pub mod Forms
 pub mod Geometry
 pub mod Changes
 pub mod Stores
+pub mod Rows
 pub mod View
 pub mod Puts
 pub mod ViewAfter

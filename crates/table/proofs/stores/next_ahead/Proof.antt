@@ -1,0 +1,13 @@
+-- `next_ahead` meets its contract: two less, or around. Assumes nothing.
+use Rattle.table.specs.Rows.{next-near, next-far}
+use borrow.Author.Needs.{needs}
+use Rattle.table.proofs.stores.next_ahead.Statement.{statement}
+use Rattle.table.proofs.stores.next_ahead.Tie as tie
+
+pub next-ahead-spec : {M : Type 1} → statement M
+next-ahead-spec =
+    tie.close
+    (tie.spec
+    (λ c. search needs)
+    (λ c. next-near _ _ (c .if1 .taken))
+    (λ c. next-far _ _ (c .if1 .left)))

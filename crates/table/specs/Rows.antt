@@ -1,0 +1,158 @@
+-- A row of fresh entries: the entries of one node, items ascending, all values 0, with a copy at some items. How far the node is ahead of an
+-- item's first copy says which: 0 has the first copy, 1 the second, more has none.
+use Prim.Native.Nat.{ℕ, zero, suc, _+_, _-_, _*_, _≤_, _<_}
+use mathlib.Core.Path.{_≡_, refl, ap, sym, _∙_}
+use mathlib.Core.Bool.{cond}
+use mathlib.Core.List.{List, [], _∷_, map}
+use native.Mathlib.Omega.{arith}
+use native.Mathlib.Numerals.{add-one}
+use lib.Dec.{eqb, ltb}
+use lib.ListN.{length, set}
+use borrow.Author.Tests.{eq-eqb, ne-eqb, lt-ltb, le-ltb}
+use Rattle.table.specs.declared.geometry.Geometry.{Geometry}
+use Rattle.table.specs.Words.{invalid, stateWord}
+use Rattle.table.specs.Geometry.{entryAt}
+use Rattle.table.specs.Stores.{Change, stateTo, valueTo, keptTo, Store, entryStore, runs, Stored, StoredIn, wrote-word, stored-one, stored-then, stored-as, loop-starts, loop-turns, loop-ends}
+
+-- the distance at the item after: two less, or around the nodes
+unfoldable pub nextAhead : ℕ → ℕ → ℕ
+nextAhead around ahead = cond (ltb ahead 2) (ahead + around) (ahead - 2)
+
+-- the distance at an item
+unfoldable pub aheadAt : ℕ → ℕ → ℕ → ℕ
+aheadAt around ahead zero = ahead
+aheadAt around ahead (suc b) = nextAhead around (aheadAt around ahead b)
+
+unfoldable pub placeAhead : ℕ → ℕ → ℕ → ℕ
+placeAhead first second ahead = cond (eqb ahead 0) first (cond (eqb ahead 1) second invalid)
+
+-- an entry with values 0
+abbrev pub freshEntry : ℕ → List Change
+freshEntry place = stateTo place invalid ∷ valueTo 0 ∷ keptTo 0 ∷ []
+
+-- the stores of an item in the row of node n, which is n ahead of item 0
+abbrev pub rowEntry : ℕ → ℕ → ℕ → ℕ → ℕ → List Store
+rowEntry n first second around b = map (entryStore n b) (freshEntry (placeAhead first second (aheadAt around n b)))
+
+-- ---- the ways of the code
+
+pub next-near : (around ahead : ℕ) → ahead < 2 → ahead + around ≡ nextAhead around ahead
+unfolding nextAhead
+next-near around ahead h = rw (lt-ltb ahead 2 h)
+
+pub next-far : (around ahead : ℕ) → 2 ≤ ahead → ahead - 2 ≡ nextAhead around ahead
+unfolding nextAhead
+next-far around ahead h = rw (le-ltb ahead 2 h)
+
+module _ (first second ahead : ℕ) where
+  pub place-first : ahead ≡ 0 → first ≡ placeAhead first second ahead
+  unfolding placeAhead
+  place-first e = rw (eq-eqb ahead 0 e)
+
+  pub place-second : ahead ≡ 1 → second ≡ placeAhead first second ahead
+  unfolding placeAhead
+  place-second e = rw (ne-eqb ahead 0 (λ z. omega arith), eq-eqb ahead 1 e)
+
+  pub place-none : 2 ≤ ahead → invalid ≡ placeAhead first second ahead
+  unfolding placeAhead
+  place-none h = rw (ne-eqb ahead 0 (λ z. omega arith), ne-eqb ahead 1 (λ z. omega arith))
+
+-- the words of an entry, through the store of one word
+pub fresh-then :
+    {g : Geometry} {n b place left left₁ left₂ left₃ : ℕ} {t t₁ t₂ t₃ : List ℕ} → StoredIn g left n b (stateTo place invalid ∷ []) t t₁ left₁
+    → StoredIn g left₁ n b (valueTo 0 ∷ []) t₁ t₂ left₂ → StoredIn g left₂ n b (keptTo 0 ∷ []) t₂ t₃ left₃
+    → StoredIn g left n b (freshEntry place) t t₃ left₃
+fresh-then first second third = stored-then first (stored-then second third)
+
+-- the same words, put without a look at the limit
+unfoldable pub putEntry : ℕ → ℕ → List ℕ → List ℕ
+putEntry at place t = set (set (set t at (stateWord place invalid)) (at + 1) 0) (at + 2) 0
+
+pub put-words :
+    (at place : ℕ) (t : List ℕ) {word : ℕ} → word ≡ stateWord place invalid → set (set (set t at word) (at + 1) 0) (at + 2) 0 ≡ putEntry at place t
+unfolding putEntry
+put-words at place t e = rw e refl
+
+pub put-stored :
+    (g : Geometry) (n b place left at : ℕ) (t : List ℕ) → 3 ≤ left → at ≡ entryAt g n b
+    → StoredIn g left n b (freshEntry place) t (putEntry at place t) (left - 1 - 1 - 1)
+unfolding putEntry
+put-stored g n b place left at t h e =
+    fresh-then
+    (stored-one g (entryStore n b (stateTo place invalid)) (wrote-word left at (stateWord place invalid) t (λ z. omega arith)) (omega arith) refl)
+    (stored-one g (entryStore n b (valueTo 0)) (wrote-word (left - 1) (at + 1) 0 (set t at (stateWord place invalid)) (λ z. omega arith)) (omega arith) refl)
+    (stored-one g (entryStore n b (keptTo 0)) (wrote-word (left - 1 - 1) (at + 2) 0 (set (set t at (stateWord place invalid)) (at + 1) 0) (λ z. omega arith)) (omega arith) refl)
+
+-- an entry of the row was put, and the distance of the item after
+pub record PutNext (at first second around ahead : ℕ) (t t′ : List ℕ) (r : ℕ) : Type 0 where
+  pub table : t′ ≡ putEntry at (placeAhead first second ahead) t
+  pub next : r ≡ nextAhead around ahead
+
+module _ (at first second around ahead : ℕ) {t t′ : List ℕ} where
+  pub put-copy :
+      {place : ℕ} → ahead < 2 → place ≡ placeAhead first second ahead → t′ ≡ putEntry at place t
+      → PutNext at first second around ahead t t′ (ahead + around)
+  put-copy h p e = record { table = rw p at e; next = next-near around ahead h }
+
+  pub put-none : 2 ≤ ahead → t′ ≡ putEntry at invalid t → PutNext at first second around ahead t t′ (ahead - 2)
+  put-none h e = record { table = e ∙ ap (λ x. putEntry at x t) (place-none first second ahead h); next = next-far around ahead h }
+
+-- limit and table have room for the row
+pub record Room (g : Geometry) (n left : ℕ) (t : List ℕ) : Type 0 where
+  pub limit : 3 * g .items ≤ left
+  pub reach : entryAt g n (g .items) ≤ length t
+  pub small : entryAt g n (g .items) < 1000000000
+
+-- the loops: the items before b are stored
+pub record Row (g : Geometry) (n first second around left : ℕ) (b ahead : ℕ) (t t′ : List ℕ) (left′ : ℕ) : Type 0 where
+  pub within : b ≤ g .items
+  pub distance : ahead ≡ aheadAt around n b
+  pub stored : Stored g left (runs (rowEntry n first second around) b) t t′ left′
+
+module _ {g : Geometry} {n first second around left : ℕ} {t : List ℕ} where
+  pub row-starts : Row g n first second around left 0 n t t left
+  unfolding aheadAt
+  row-starts = record { within = omega arith; distance = refl; stored = loop-starts g (rowEntry n first second around) left t }
+
+  pub row-turns :
+      {b ahead place left₁ left₂ r : ℕ} {t₁ t₂ : List ℕ} → Row g n first second around left b ahead t t₁ left₁ → b < g .items
+      → place ≡ placeAhead first second ahead → StoredIn g left₁ n b (freshEntry place) t₁ t₂ left₂ → r ≡ nextAhead around ahead
+      → Row g n first second around left (b + 1) r t t₂ left₂
+  unfolding aheadAt
+  row-turns {b} w h p s e =
+      record {
+        within = omega arith;
+        distance = rw add-one (e ∙ ap (nextAhead around) (w .distance));
+        stored =
+            loop-turns (rowEntry n first second around) b (w .stored)
+            (stored-as (ap (λ x. map (entryStore n b) (freshEntry x)) (ap (placeAhead first second) (sym (w .distance)) ∙ sym p)) s);
+      }
+
+  pub row-ends :
+      {b ahead left′ : ℕ} {t′ : List ℕ} → Row g n first second around left b ahead t t′ left′ → g .items ≤ b
+      → Stored g left (runs (rowEntry n first second around) (g .items)) t t′ left′
+  row-ends {b} w h = loop-ends (rowEntry n first second around) b (g .items) (w .within) h (w .stored)
+
+  -- where there is room
+  pub put-starts : Row g n first second around left 0 n t t (left - 3 * 0)
+  put-starts = let e : left - 3 * 0 ≡ left = omega arith in rw e row-starts
+
+  module _ {b ahead at : ℕ} {t₁ : List ℕ} (m : Room g n left t) (w : Row g n first second around left b ahead t t₁ (left - 3 * b)) where
+    pub put-within : b < g .items → at ≡ entryAt g n b → at + 2 < length t₁
+    put-within h e = omega (arith, m .reach, w .stored .size)
+
+    pub put-small : b < g .items → at ≡ entryAt g n b → at + 3 ≤ 1000000000
+    put-small h e = omega (arith, m .small)
+
+    pub put-turns :
+        {r : ℕ} {t₂ : List ℕ} → b < g .items → at ≡ entryAt g n b → PutNext at first second around ahead t₁ t₂ r
+        → Row g n first second around left (b + 1) r t t₂ (left - 3 * (b + 1))
+    put-turns h e p =
+        let s = put-stored g n b (placeAhead first second ahead) (left - 3 * b) at t₁ (omega (arith, m .limit)) e in
+        let c : left - 3 * (b + 1) ≡ left - 3 * b - 1 - 1 - 1 = omega arith in
+        rw (c, p .table) (row-turns w h refl s (p .next))
+
+  pub put-ends :
+      {b ahead : ℕ} {t₁ : List ℕ} → Row g n first second around left b ahead t t₁ (left - 3 * b) → g .items ≤ b
+      → Stored g left (runs (rowEntry n first second around) (g .items)) t t₁ (left - 3 * g .items)
+  put-ends {b} w h = let e : left - 3 * g .items ≡ left - 3 * b = omega (arith, w .within) in rw e (row-ends w h)
