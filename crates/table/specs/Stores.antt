@@ -70,7 +70,7 @@ pub record Stored (g : Geometry) (left : ℕ) (ss : List Store) (t t′ : List �
 abbrev pub StoredIn : Geometry → ℕ → ℕ → ℕ → List Change → List ℕ → List ℕ → ℕ → Type 0
 StoredIn g left n b cs t t′ left′ = Stored g left (map (entryStore n b) cs) t t′ left′
 
--- one word, as the one storing function writes it
+-- one word, as `store` writes it
 unfoldable pub written : ℕ → ℕ → ℕ → List ℕ → List ℕ
 written zero at word t = t
 written (suc left) at word t = set t at word
@@ -101,7 +101,7 @@ after-append g zero (x ∷ xs) ys t = rw zero-sub (sym (after-zero g ys t))
 after-append g (suc left) [] ys t = rw sub-zero
 after-append g (suc left) (x ∷ xs) ys t = rw suc-sub-suc (after-append g left xs ys (set t (placeOf g x) (wordOf x)))
 
--- the three ways of the storing function: nothing left, past the end, written
+-- the three ways of `store`: nothing left, past the end, written
 pub wrote-cut : (left at word : ℕ) (t : List ℕ) → left ≡ 0 → Wrote left at word t t left
 unfolding written
 wrote-cut zero at word t h = record { table = refl; rest = refl; size = refl }
