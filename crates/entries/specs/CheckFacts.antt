@@ -23,6 +23,7 @@ use Rattle.table.specs.View.{View, view, live}
 use Rattle.entries.specs.Sound.{sound}
 use Rattle.entries.specs.Check.{madeOf, lengthOf, sizesOf, soundOf, faultOf, sizes-passed}
 use Rattle.entries.specs.Back.{Pair, backNumber, kind-pair, pair-only}
+use Rattle.entries.specs.SurveySound.{Surveyable}
 use Rattle.entries.specs.SoundFacts.{SoundTable, phaseIn, numberIn, sound-facts, facts-sound}
 
 -- ---- checks 1, 3, 1
@@ -62,6 +63,11 @@ sizes-facts t g h = by-cases (eqb (length t) 0) (λ e. absurd (never-passed (rw 
           long = rw same at (leb-true (wordsOf a) (length t) l);
         })
         (λ l. absurd (never-passed (rw l at k)))
+
+pub sizes-surveyable : (t : List ℕ) (g : Geometry) → sizesOf t ≡ Passed g → Surveyable g t
+sizes-surveyable t g h =
+    let s = sizes-facts t g h in
+    record { words = s .long; nodes = s .sizes .nodes-high; items = s .sizes .items-high; frames = s .sizes .frames-high }
 
 pub facts-sizes : (t : List ℕ) (g : Geometry) → Shape t g → sizesOf t ≡ Passed g
 facts-sizes t g s =

@@ -1,43 +1,165 @@
--- What the code has met of the marks below n.
-use mathlib.Core.Path.{_≡_, refl, ap, _∙_}
-use mathlib.Core.Bool.{Bool, true, not, cond, _&&_}
-use Prim.Native.Nat.{ℕ, _+_, _≤_}
+-- What the code has met of the marks below n: the live ones are one word exactly if they have their form and agree in phase and number.
+use mathlib.Core.Path.{_≡_, refl, sym, ap, ap₂, _∙_}
+use mathlib.Core.Bool.{Bool, true, false, not, _&&_, _||_}
+use Prim.Native.Nat.{ℕ, zero, suc, _+_, _-_, _^_, _≤_, _<_}
 use native.Mathlib.Omega.{arith}
-use Rattle.table.specs.Words.{markForm, phaseOf, numberOf}
-use lib.Dec.{eqb}
-use Rattle.table.specs.View.{View}
-use Rattle.counting.specs.Counting.{every-none, every-next}
-use Rattle.counting.specs.Values.{metOf, noValues, values-none, values-next}
+use Rattle.table.specs.Words.{markForm, phaseOf, numberOf, markWord}
+use Rattle.table.specs.Forms.{live-mark}
+use lib.Dec.{eqb, ltb}
+use borrow.Author.Tests.{eqb-true, eqb-false, eq-eqb, ne-eqb, not-true}
+use Rattle.table.specs.View.{View, live}
+use Rattle.counting.specs.declared.values.Values.{Values}
+use Rattle.counting.specs.Tests.{both, and-both, by-cases, bool-iff}
+use Rattle.counting.specs.Counting.{every-at, every-all}
+use Rattle.counting.specs.Values.{valuesOf, values-next, values-equal, equal-values}
 use Rattle.entries.specs.Sound.{marksForm, phasesOf, pointsOf, marksAgree, nodesSound, itemsSound, sound}
 use Rattle.table.specs.declared.geometry.Geometry.{Geometry}
 use Rattle.entries.specs.declared.marks.Marks.{Marks}
 
+-- the live marks below n
+unfoldable pub marksOf : View → ℕ → Values
+marksOf v n = valuesOf n (live v) (v .mark)
+
 pub record Marked (v : View) (n : ℕ) (m : Marks) : Type 0 where
-  pub form : m .form ≡ marksForm v n
-  pub phases : m .phases ≡ phasesOf v n
-  pub points : m .points ≡ pointsOf v n
+  pub first : m .first ≡ marksOf v n .first
+  pub equal : m .equal ≡ marksOf v n .equal
 
-pub marked-none : (v : View) → Marked v 0 (record { form = true; phases = noValues; points = noValues })
-unfolding marksForm phasesOf pointsOf
-marked-none v = record { form = every-none _; phases = values-none _ _; points = values-none _ _ }
+-- one word of good form, its phase 0 or 1, its number under 2^32 − 1 in phase 1
+abbrev pub marksTest : ℕ → Bool → Bool
+marksTest first equal = equal && (markForm first && (ltb (phaseOf first) 2 && (not (eqb (phaseOf first) 1) || ltb (numberOf first) (2 ^ 32 - 1))))
 
-pub marked-next :
-    (v : View) (n : ℕ) (m : Marks) → Marked v n m → (w : ℕ) → w ≡ v .mark n → (r : Marks) → r .form ≡ (m .form && markForm w)
-    → r .phases ≡ cond (not (eqb w 0)) (metOf (m .phases) (phaseOf w)) (m .phases)
-    → r .points ≡ cond (not (eqb w 0)) (metOf (m .points) (numberOf w)) (m .points) → Marked v (n + 1) r
-unfolding marksForm phasesOf pointsOf
-marked-next v n m s w e r f p q = record {
-  form = f ∙ every-next (λ k. markForm (v .mark k)) n (s .form) (ap markForm e);
-  phases = p ∙ rw (e, s .phases, values-next) refl;
-  points = q ∙ rw (e, s .points, values-next) refl;
-}
+-- ---- the loop: the first mark that was met is 0 as long as there was none
 
-pub marked-all : (v : View) (n k : ℕ) (m : Marks) → Marked v n m → n ≤ k → k ≤ n → Marked v k m
-marked-all v n k m s h g = let e : n ≡ k = omega arith in rw e at s
+pub record Marking (v : View) (n first : ℕ) (equal : Bool) : Type 0 where
+  pub seen : marksOf v n .seen ≡ not (eqb first 0)
+  pub first-is : first ≡ marksOf v n .first
+  pub equal-is : equal ≡ marksOf v n .equal
+
+pub marking-none : (v : View) → Marking v 0 0 true
+unfolding marksOf valuesOf
+marking-none v = record { seen = refl; first-is = refl; equal-is = refl }
+
+and-true : (a : Bool) → (a && true) ≡ a
+and-true true = refl
+and-true false = refl
+
+module _ (v : View) (n first : ℕ) (equal : Bool) (s : Marking v n first equal) (w : ℕ) (e : w ≡ v .mark n) (r : ℕ) where
+  -- a mark before which none was live
+  pub marking-first : first ≡ 0 → r ≡ w → Marking v (n + 1) r (equal && (eqb w 0 || eqb w r))
+  unfolding marksOf
+  marking-first z k =
+      let next = values-next n (live v) (v .mark) in
+      let u : marksOf v n .seen ≡ false = s .seen ∙ rw z refl in
+      by-cases (eqb w 0)
+      (λ y. let o : w ≡ first = eqb-true w 0 y ∙ sym z in
+      rw k (record {
+        seen = rw (next, ← e, y) u;
+        first-is = rw (next, ← e, y) (o ∙ s .first-is);
+        equal-is = rw (next, ← e, y, and-true) (s .equal-is);
+      }))
+      (λ y. rw k (record {
+        seen = rw (next, ← e, y, u) refl;
+        first-is = rw (next, ← e, y, u) refl;
+        equal-is = rw (next, ← e, y, u, eq-eqb w w refl, and-true) (s .equal-is);
+      }))
+
+  -- a mark after a live one
+  pub marking-next : (first ≡ 0 → ⊥) → r ≡ first → Marking v (n + 1) r (equal && (eqb w 0 || eqb w r))
+  unfolding marksOf
+  marking-next d k =
+      let next = values-next n (live v) (v .mark) in
+      let z = ne-eqb first 0 d in
+      let u : marksOf v n .seen ≡ true = s .seen ∙ rw z refl in
+      by-cases (eqb w 0)
+      (λ y. rw k (record {
+        seen = rw (next, ← e, y) (s .seen);
+        first-is = rw (next, ← e, y) (s .first-is);
+        equal-is = rw (next, ← e, y, and-true) (s .equal-is);
+      }))
+      (λ y. rw k (record {
+        seen = rw (next, ← e, y, u, z) refl;
+        first-is = rw (next, ← e, y, u) (s .first-is);
+        equal-is = rw (next, ← e, y, u, s .equal-is, s .first-is) refl;
+      }))
+
+pub marking-all : (v : View) (n k first : ℕ) (equal : Bool) → Marking v n first equal → n ≤ k → k ≤ n → Marked v k (record { first = first; equal = equal })
+marking-all v n k first equal s h g = let e : n ≡ k = omega arith in rw (← e) (record { first = s .first-is; equal = s .equal-is })
+
+-- ---- the first of the values, and of what a function makes of them
+
+module _ (p : ℕ → Bool) (f : ℕ → ℕ) where
+  first-holds : (t : ℕ → Bool) (n : ℕ) → t 0 ≡ true → ((m : ℕ) → m < n → p m ≡ true → t (f m) ≡ true) → t (valuesOf n p f .first) ≡ true
+  unfolding valuesOf
+  first-holds t zero z h = z
+  first-holds t (suc n) z h =
+      let r = first-holds t n z (λ m l. h m (omega arith)) in
+      by-cases (p n)
+      (λ y. rw y (by-cases (valuesOf n p f .seen) (λ e. rw e r) (λ e. rw e (h n (omega arith) y))))
+      (λ y. rw y r)
+
+  module _ (h : ℕ → ℕ) where
+    seen-of : (n : ℕ) → valuesOf n p (λ k. h (f k)) .seen ≡ valuesOf n p f .seen
+    unfolding valuesOf
+    seen-of zero = refl
+    seen-of (suc n) = by-cases (p n)
+        (λ y. rw (y, seen-of n) (by-cases (valuesOf n p f .seen) (λ e. rw e refl) (λ e. rw e refl)))
+        (λ y. rw y (seen-of n))
+
+    first-of : (n : ℕ) → h 0 ≡ 0 → valuesOf n p (λ k. h (f k)) .first ≡ h (valuesOf n p f .first)
+    unfolding valuesOf
+    first-of zero z = sym z
+    first-of (suc n) z = by-cases (p n)
+        (λ y. rw (y, seen-of n) (by-cases (valuesOf n p f .seen) (λ e. rw e (first-of n z)) (λ e. rw e refl)))
+        (λ y. rw y (first-of n z))
+
+-- ---- what the live marks tell
+
+module _ (v : View) (n : ℕ) where
+  pub marks-phase : phasesOf v n .first ≡ phaseOf (marksOf v n .first)
+  unfolding phasesOf marksOf
+  marks-phase = first-of (live v) (v .mark) phaseOf n refl
+
+  marks-number : pointsOf v n .first ≡ numberOf (marksOf v n .first)
+  unfolding pointsOf marksOf
+  marks-number = first-of (live v) (v .mark) numberOf n refl
+
+  forms-tell : (marksForm v n && marksAgree (phasesOf v n) (pointsOf v n)) ≡ true → marksTest (marksOf v n .first) (marksOf v n .equal) ≡ true
+  unfolding marksForm phasesOf pointsOf marksOf
+  forms-tell h =
+      let h₁ = both (marksForm v n) h in
+      let h₂ = both (phasesOf v n .equal) (h₁ .1) in
+      let h₃ = both (pointsOf v n .equal) (h₂ .1) in
+      let form = every-at n (λ k. markForm (v .mark k)) (h₁ .0) in
+      let word : (m : ℕ) → m < n → live v m ≡ true → v .mark m ≡ markWord (phasesOf v n .first) (pointsOf v n .first) =
+      λ m l t. live-mark (v .mark m) (form m l) (eqb-false (v .mark m) 0 (not-true (eqb (v .mark m) 0) t)) .0
+      ∙ ap₂ markWord (values-equal n (live v) _ (h₂ .0) m l t) (values-equal n (live v) _ (h₃ .0) m l t) in
+      and-both (equal-values n (live v) (v .mark) _ word .0)
+      (and-both (first-holds (live v) (v .mark) markForm n refl (λ m l _. form m l))
+      (rw (← marks-phase, ← marks-number) (h₃ .1)))
+
+  tell-forms : marksTest (marksOf v n .first) (marksOf v n .equal) ≡ true → (marksForm v n && marksAgree (phasesOf v n) (pointsOf v n)) ≡ true
+  unfolding marksForm phasesOf pointsOf marksOf
+  tell-forms h =
+      let h₁ = both (marksOf v n .equal) h in
+      let h₂ = both (markForm (marksOf v n .first)) (h₁ .1) in
+      let same : (m : ℕ) → m < n → live v m ≡ true → v .mark m ≡ marksOf v n .first = values-equal n (live v) (v .mark) (h₁ .0) in
+      and-both
+      (every-all n (λ k. markForm (v .mark k)) (λ m l. by-cases (eqb (v .mark m) 0)
+      (λ z. rw (eqb-true (v .mark m) 0 z) refl) (λ d. ap markForm (same m l (rw d refl)) ∙ h₂ .0)))
+      (and-both (equal-values n (live v) _ _ (λ m l t. ap phaseOf (same m l t)) .0)
+      (and-both (equal-values n (live v) _ _ (λ m l t. ap numberOf (same m l t)) .0)
+      (rw (marks-phase, marks-number) (h₂ .1))))
+
+  pub marks-tell : (marksForm v n && marksAgree (phasesOf v n) (pointsOf v n)) ≡ marksTest (marksOf v n .first) (marksOf v n .equal)
+  marks-tell = bool-iff _ _ forms-tell tell-forms
+
+and-then : (a b c : Bool) → ((a && b) && c) ≡ (a && (b && c))
+and-then true b c = refl
+and-then false b c = refl
 
 -- all tests together, as the code makes them
 pub marked-sound :
-    (g : Geometry) (v : View) (m : Marks) → Marked v (g .nodes) m → {agree nodes items : Bool} → agree ≡ marksAgree (m .phases) (m .points)
-    → nodes ≡ nodesSound g v → items ≡ itemsSound g v (m .phases .first) → (m .form && (agree && (nodes && items))) ≡ sound g v
+    (g : Geometry) (v : View) (m : Marks) → Marked v (g .nodes) m → {agree rest : Bool} → agree ≡ marksTest (m .first) (m .equal)
+    → rest ≡ (nodesSound g v && itemsSound g v (phaseOf (m .first))) → (agree && rest) ≡ sound g v
 unfolding sound
-marked-sound g v m k a n i = rw (a, n, i, k .form, k .phases, k .points) refl
+marked-sound g v m k a n = rw (a, n, k .first, k .equal, ← marks-tell, ← marks-phase) (and-then (marksForm v (g .nodes)) _ _)

@@ -60,7 +60,7 @@ digit-parts : (i : ℕ) → i < 64 → getD digits i 0 ≡ 48 + codeFrames i + 4
 unfolding every
 digit-parts i h = eqb-true _ _ (every-at 64 digitRule refl i h)
 
-quarter : (w : ℕ) → currentOf w ≡ topOf w / 4
+pub quarter : (w : ℕ) → currentOf w ≡ topOf w / 4
 quarter w = omega arith
 
 frames-two : (w : ℕ) → framesIn w ≤ 2
@@ -135,7 +135,7 @@ pub mark-there : (g : Geometry) (t : List ℕ) (n : ℕ) {mark : ℕ} → mark �
 mark-there g t n e d = by-cases (ltb n (g .nodes)) (λ h. ltb-true _ _ h) (λ h. absurd (d (e ∙ sym (mark-none g t n (ltb-false _ _ h)))))
 
 module _ (g : Geometry) (t : List ℕ) (n : ℕ) (h : n < g .nodes) {start : ℕ} (a : Placed g n 0 start) where
-  row-state : (b : ℕ) → b < g .items → rowState t start b ≡ view g t .entry n b .state
+  pub row-state : (b : ℕ) → b < g .items → rowState t start b ≡ view g t .entry n b .state
   unfolding rowState
   row-state b k =
       let e : start + entryWords * b ≡ entryAt g n b + 0 = omega (arith, a .at) in
@@ -149,7 +149,7 @@ module _ (g : Geometry) (t : List ℕ) (n : ℕ) (h : n < g .nodes) {start : ℕ
   }
 
 module _ (g : Geometry) (v : View) (n : ℕ) where
-  one-set : setsOf g ≡ 1 → framesFit g v n ≡ leb (used g v n 0) (setFrames g)
+  pub one-set : setsOf g ≡ 1 → framesFit g v n ≡ leb (used g v n 0) (setFrames g)
   unfolding framesFit every
   one-set h = ap (λ k. every (λ s. leb (used g v n s) (setFrames g)) k) h
 

@@ -26,7 +26,7 @@ or-same : (a x y : Bool) → (a ≡ true → x ≡ y) → (not a || x) ≡ (not 
 or-same true x y f = f refl
 or-same false x y f = refl
 
-values-ext :
+pub values-ext :
     (n : ℕ) (p q : ℕ → Bool) (f g : ℕ → ℕ) → ((m : ℕ) → m < n → q m ≡ p m) → ((m : ℕ) → m < n → p m ≡ true → g m ≡ f m)
     → valuesOf n q g ≡ valuesOf n p f
 unfolding valuesOf

@@ -2,8 +2,7 @@
 pub mod check;
 pub mod format;
 pub mod frames;
-mod items;
 mod marks;
 pub mod sound;
 pub mod stretch;
-mod tally;
+mod survey;

@@ -4,10 +4,11 @@ ghost use Prim.Native.Nat.{_<_};
 ghost use Rattle.table.specs.View.{view};
 ghost use Rattle.entries.specs.Frames.{setsOf};
 ghost use Rattle.entries.specs.NodePass.{rowState, RowPassed, NodePassed};
-ghost use Rattle.entries.specs.Sound.{statesForm, nodeSound, nodesSound, itemsSound, sound};
+ghost use Rattle.entries.specs.Sound.{statesForm, nodeSound, sound};
+ghost use Rattle.entries.specs.SurveySound.{Surveyable};
 use crate::frames;
-use crate::items;
 use crate::marks;
+use crate::survey;
 use table::geometry::Geometry;
 use table::stores;
 use table::words;
@@ -66,7 +67,7 @@ fn node_pass(table: &[u64], g: Geometry, node: u8) -> Pass
 }
 
 // Whether a node is dead, or its state words have their form and its frames suffice.
-fn node_sound(table: &[u64], g: Geometry, node: u8) -> bool
+pub fn node_sound(table: &[u64], g: Geometry, node: u8) -> bool
     ensures { λ r. ⌜ r ≡ nodeSound g (view g (now (table .entry))) node ⌝ }
 {
     let mark = stores::mark_at(table, g, node);
@@ -84,45 +85,14 @@ fn node_sound(table: &[u64], g: Geometry, node: u8) -> bool
     forms & fit
 }
 
-// Whether each node is sound.
-fn nodes_sound(table: &[u64], g: Geometry) -> bool
-    ensures { λ r. ⌜ r ≡ nodesSound g (view g (now (table .entry))) ⌝ }
-{
-    let nodes = g.nodes;
-    let mut ok = true;
-    let mut node: u8 = 0;
-    while node < nodes {
-        let good = node_sound(table, g, node);
-        ok = ok & good;
-        node += 1;
-    }
-    ok
-}
-
-// Whether each item is clean, dirty, or, in phase 1 only, created.
-fn items_sound(table: &[u64], g: Geometry, phase: u64) -> bool
-    ensures { λ r. ⌜ r ≡ itemsSound g (view g (now (table .entry))) phase ⌝ }
-{
-    let items = g.items;
-    let mut ok = true;
-    let mut item: u16 = 0;
-    while item < items {
-        let good = items::item_sound(table, g, phase, item);
-        ok = ok & good;
-        item += 1;
-    }
-    ok
-}
-
 // Whether a table of this geometry is sound.
-pub fn table_sound(table: &[u64], g: Geometry) -> bool
+pub(crate) fn table_sound(table: &[u64], g: Geometry) -> bool
+    requires { ⌜ Surveyable g (now table) ⌝ }
     ensures { λ r. ⌜ r ≡ sound g (view g (now (table .entry))) ⌝ }
 {
     let m = marks::marks_met(table, g);
     let agree = marks::agree(m);
-    let phases = m.phases;
-    let phase = phases.first;
-    let nodes = nodes_sound(table, g);
-    let items = items_sound(table, g, phase);
-    m.form & (agree & (nodes & items))
+    let phase = words::phase_of(m.first) as u64;
+    let rest = survey::survey(table, g, phase);
+    agree & rest
 }

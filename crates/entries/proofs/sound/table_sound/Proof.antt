@@ -4,6 +4,12 @@ use borrow.Author.Needs.{needs}
 use Rattle.entries.proofs.sound.table_sound.Statement.{statement}
 use Rattle.entries.proofs.sound.table_sound.Tie as tie
 
+returns : tie.Need-returns
+returns c =
+    let p = c .before in
+    let a = p .before in
+    marked-sound _ _ _ (a .before .marks-met .ensures) (a .agree .ensures) (rw (p .phase-of .ensures) at (c .survey .ensures))
+
 pub table-sound-spec : {M : Type 1} → statement M
 table-sound-spec =
     tie.close
@@ -11,5 +17,6 @@ table-sound-spec =
     (λ c κs. search needs)
     (λ c κs. search needs)
     (λ c κs. search needs)
+    (λ c. search needs)
     (λ c κs. search needs)
-    (λ c. let i = c .before in let a = i .before .before .before in marked-sound _ _ _ (a .before .marks-met .ensures) (a .agree .ensures) (i .before .nodes-sound .ensures) (i .items-sound .ensures)))
+    returns)

@@ -1,0 +1,62 @@
+-- `note_entry` meets its contract. Assumes nothing.
+use Prim.Native.Nat.{_+_}
+use mathlib.Core.Logic.{⊎-elim}
+use native.Mathlib.Omega.{arith}
+use lib.ListN.{getD, length-set}
+use borrow.Author.Needs.{needs}
+use Rattle.entries.specs.SurveyNoting.{chosen-first, chosen-second, entry-noted}
+use Rattle.entries.proofs.survey.note_entry.Statement.{statement}
+use Rattle.entries.proofs.survey.note_entry.Tie as tie
+
+cast-weight : tie.Need-cast-weight
+cast-weight c = let k = c .before .before .before .before .before .before .before in omega (arith, k .shared-slice-known .given (k .before .args .at))
+
+slice-write-notes-2 : tie.Need-slice-write-notes-2
+slice-write-notes-2 c =
+    let w = c .before .before in
+    let a = w .before .before .before .before .before .before .before .before .before .args in
+    omega (arith, length-set (a .notes .now) (a .j) (getD (a .notes .now) (a .j) 0 + w .weight .result))
+
+returns : tie.Need-returns
+returns c =
+    let k = c .before .before in
+    let w = k .before .before in
+    entry-noted _ _ _ _ _ (w .weight .ensures)
+    (⊎-elim (λ w. chosen-first _ _ _ (w .0 .taken) (w .1)) (λ w. chosen-second _ _ _ (w .0 .left) (w .1)) (k .before .if1 .came))
+    (⊎-elim (λ w. chosen-first _ _ _ (w .0 .taken) (w .1)) (λ w. chosen-second _ _ _ (w .0 .left) (w .1)) (k .if2 .came))
+    (⊎-elim (λ w. chosen-first _ _ _ (w .0 .taken) (w .1)) (λ w. chosen-second _ _ _ (w .0 .left) (w .1)) (c .before .if3 .came))
+    (⊎-elim (λ w. chosen-first _ _ _ (w .0 .taken) (w .1)) (λ w. chosen-second _ _ _ (w .0 .left) (w .1)) (c .if4 .came))
+
+pub note-entry-spec : {M : Type 1} → statement M
+note-entry-spec =
+    tie.close
+    (tie.spec
+    (λ c. search needs)
+    (λ c. search needs)
+    (λ c. search needs)
+    (λ c. search needs)
+    (λ c. search needs)
+    (λ c. search needs)
+    (λ c. search needs)
+    (λ c. search needs)
+    (λ c. search needs)
+    (λ c. search needs)
+    (λ c. search needs)
+    (λ c. search needs)
+    (λ c. search needs)
+    (λ c. search needs)
+    (λ c. search needs)
+    (λ c. search needs)
+    cast-weight
+    (λ c κs. search needs)
+    (λ c. search needs)
+    (λ c. search needs)
+    (λ c. search needs)
+    (λ c. search needs)
+    (λ c. search needs)
+    slice-write-notes-2
+    (λ c. search needs)
+    (λ c. search needs)
+    (λ c. search needs)
+    (λ c. search needs)
+    returns)

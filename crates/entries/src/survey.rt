@@ -1,0 +1,247 @@
+// The survey of a table by rows, in memory order. Of each row the entries that hold something are gathered, and only these are looked at: each adds its
+// weight to its item's tally, and its values are compared with the first that the item had.
+ghost use mathlib.Core.Path.{_≡_};
+ghost use mathlib.Core.Bool.{_&&_};
+ghost use Prim.Native.Nat.{_+_, _*_, _%_, _^_, _<_, _≤_};
+ghost use lib.ListN.{length, getD};
+ghost use Rattle.counting.specs.Counting.{every};
+ghost use Rattle.table.specs.View.{view};
+ghost use Rattle.entries.specs.Sound.{nodesSound, itemsSound};
+ghost use Rattle.entries.specs.NodePass.{rowState};
+ghost use Rattle.entries.specs.Survey.{topOf, weightOf, kindTest};
+ghost use Rattle.entries.specs.SurveyRow.{Gathered, EntryNoted, RowReady, RowNoted};
+ghost use Rattle.entries.specs.SurveySound.{fitsTest, RowFrames, Surveyable, Surveying, RowSurveyed, RowsSurveyed};
+use crate::frames;
+use table::geometry::Geometry;
+use table::stores;
+
+// What entries tell: the frames that they use, and 1024 for each whose codes are out of form; whether no other bits are set and their values agree with those before.
+struct Turn {
+    frames: u64,
+    same: bool,
+}
+
+// The weight of an entry, by the six top bits of its state word.
+fn weight(top: u8) -> u64
+    ensures { λ r. ⌜ r ≡ weightOf top ⌝ }
+{
+    match top {
+        0 => 0,
+        1 => 0x2000_0000_0020,
+        2 => 0x2000_0000_0400,
+        4 => 0x2000_0000_0001,
+        5 => 0x4000_0000_0021,
+        6 => 0x4000_0000_0401,
+        8 => 0x2000_0000_8001,
+        9 => 0x4000_0000_8021,
+        10 => 0x4000_0000_8401,
+        12 => 0x2000_0010_0001,
+        13 => 0x4000_0010_0021,
+        14 => 0x4000_0010_0401,
+        16 => 0x2000_0200_0001,
+        20 => 0x2000_4000_0001,
+        24 => 0x2008_0000_0001,
+        25 => 0x4008_0000_0021,
+        26 => 0x4008_0000_0401,
+        28 => 0x2100_0000_0001,
+        29 => 0x4100_0000_0021,
+        30 => 0x4100_0000_0401,
+        _ => 0x80_0000_0000_0000,
+    }
+}
+
+// Gathers the offsets of the entries of a row whose state word is not 0; how many there are.
+fn occupied(table: &[u64], start: usize, items: u16, list: &mut [u16]) -> usize
+    requires { ⌜ (start + 3 * items ≤ length (now table)) × ((items ≤ length (now list)) × (items ≤ 256)) ⌝ }
+    ensures { λ r. ⌜ Gathered (rowState (now (table .entry)) start) items (now (list .exit)) r ⌝ }
+{
+    let width = Geometry::ENTRY_WORDS * (items as usize);
+    let mut count: usize = 0;
+    let mut offset: usize = 0;
+    while offset < width {
+        let state = table[start + offset];
+        list[count] = offset as u16;
+        count += (state != 0) as usize;
+        offset += Geometry::ENTRY_WORDS;
+    }
+    count
+}
+
+// Notes one entry.
+fn note_entry(table: &[u64], at: usize, j: usize, notes: &mut [u64]) -> Turn
+    requires { ⌜ (at + 2 < length (now table)) × ((j + 2 < length (now notes)) × (getD (now notes) j 0 + weightOf (topOf (getD (now table) at 0)) < 2 ^ 64)) ⌝ }
+    ensures { λ r. ⌜ EntryNoted (getD (now (table .entry)) at 0) (getD (now (table .entry)) (at + 1) 0) (getD (now (table .entry)) (at + 2) 0) j (now (notes .entry)) (now (notes .exit)) r ⌝ }
+{
+    let state = table[at];
+    let value = table[at + 1];
+    let kept_value = table[at + 2];
+    let tally = notes[j];
+    let first = notes[j + 1];
+    let kept_first = notes[j + 2];
+    let weight = weight((state / 0x400_0000_0000_0000) as u8);
+    let first = if tally % 32 == 0 { value } else { first };
+    let kept_first = if tally / 32 % 1024 == 0 {
+        kept_value
+    } else {
+        kept_first
+    };
+    notes[j] = tally + weight;
+    notes[j + 1] = first;
+    notes[j + 2] = kept_first;
+    let met = if weight % 32 == 0 { first } else { value };
+    let kept_met = if weight / 32 % 1024 == 0 {
+        kept_first
+    } else {
+        kept_value
+    };
+    Turn {
+        frames: weight / 0x2000_0000_0000,
+        same: (first == met) & ((kept_first == kept_met) & (state % 0x400_0000_0000_0000 == 0)),
+    }
+}
+
+// Notes the row of a live node.
+fn note_row(table: &[u64], g: Geometry, node: u8, list: &mut [u16], notes: &mut [u64]) -> Turn
+    requires { ⌜ RowReady g (now table) node (now list) (now notes) ⌝ }
+    ensures { λ r. ⌜ RowNoted g (view g (now (table .entry))) node (now (notes .exit)) r ⌝ }
+{
+    let start = g.entry_at(node, 0);
+    let count = occupied(table, start, g.items, list);
+    let mut frames: u64 = 0;
+    let mut same = true;
+    let mut k: usize = 0;
+    while k < count {
+        let j = list[k] as usize;
+        let turn = note_entry(table, start + j, j, notes);
+        frames += turn.frames;
+        same = same & turn.same;
+        k += 1;
+    }
+    Turn { frames, same }
+}
+
+// Whether the codes of a live node's entries are of good form and its frames suffice, by what its row told of frames.
+fn node_fits(table: &[u64], g: Geometry, node: u8, frames: u64) -> bool
+    requires { ⌜ RowFrames g (view g (now table)) node frames ⌝ }
+    ensures { λ r. ⌜ r ≡ fitsTest g (view g (now (table .entry))) node ⌝ }
+{
+    let sets = frames::sets(g);
+    if sets == 1 {
+        let room = frames::set_frames(g);
+        return frames <= room as u64;
+    }
+    let fit = frames::frames_fit(table, g, node);
+    (frames < 1024) & fit
+}
+
+// Whether a node is dead, or its row is as it should be beside those of the nodes below, which are noted.
+fn row_sound(table: &[u64], g: Geometry, node: u8, list: &mut [u16], notes: &mut [u64]) -> bool
+    requires { ⌜ Surveying g (now table) node (now list) (now notes) ⌝ }
+    ensures { λ r. ⌜ RowSurveyed g (view g (now (table .entry))) node (now (notes .exit)) r ⌝ }
+{
+    let mark = stores::mark_at(table, g, node);
+    if mark == 0 {
+        return true;
+    }
+    let turn = note_row(table, g, node, list, notes);
+    let fits = node_fits(table, g, node, turn.frames);
+    turn.same & fits
+}
+
+// Whether each row is as it should be.
+fn rows_sound(table: &[u64], g: Geometry, list: &mut [u16], notes: &mut [u64]) -> bool
+    requires { ⌜ Surveying g (now table) 0 (now list) (now notes) ⌝ }
+    ensures { λ r. ⌜ RowsSurveyed g (view g (now (table .entry))) (g .nodes) (now (notes .exit)) r ⌝ }
+{
+    let nodes = g.nodes;
+    let mut ok = true;
+    let mut node: u8 = 0;
+    while node < nodes {
+        let good = row_sound(table, g, node, list, notes);
+        ok = ok & good;
+        node += 1;
+    }
+    ok
+}
+
+// Whether an item is clean, dirty, or, in phase 1 only, created, by its tally.
+fn kind_sound(tally: u64, phase: u64) -> bool
+    ensures { λ r. ⌜ r ≡ kindTest phase (tally % 2 ^ 45) ⌝ }
+{
+    let t = tally % 0x2000_0000_0000;
+    let apart = t / 32;
+    (apart == 0x210_0000)
+        | (((t == 0x10_0421) | (apart == 0x421)) | ((phase == 1) & (apart == 0x8_4000_0021)))
+}
+
+// Whether each item is clean, dirty, or, in phase 1 only, created, by the tallies.
+fn kinds_sound(notes: &[u64], items: u16, phase: u64) -> bool
+    requires { ⌜ 3 * items ≤ length (now notes) ⌝ }
+    ensures { λ r. ⌜ r ≡ every (λ b. kindTest phase (getD (now (notes .entry)) (3 * b) 0 % 2 ^ 45)) items ⌝ }
+{
+    let mut ok = true;
+    let mut at: usize = 0;
+    let mut item: u16 = 0;
+    while item < items {
+        let good = kind_sound(notes[at], phase);
+        ok = ok & good;
+        at += 3;
+        item += 1;
+    }
+    ok
+}
+
+// Whether nodes and items are sound, with a list and notes that are long enough, the notes zero.
+fn survey_in(table: &[u64], g: Geometry, phase: u64, list: &mut [u16], notes: &mut [u64]) -> bool
+    requires { ⌜ Surveying g (now table) 0 (now list) (now notes) ⌝ }
+    ensures { λ r. ⌜ r ≡ (nodesSound g (view g (now (table .entry))) && itemsSound g (view g (now (table .entry))) phase) ⌝ }
+{
+    let rows = rows_sound(table, g, list, notes);
+    let kinds = kinds_sound(notes, g.items, phase);
+    rows & kinds
+}
+
+// Of at most 16 items.
+fn survey_16(table: &[u64], g: Geometry, phase: u64) -> bool
+    requires { ⌜ (g .items ≤ 16) × Surveyable g (now table) ⌝ }
+    ensures { λ r. ⌜ r ≡ (nodesSound g (view g (now (table .entry))) && itemsSound g (view g (now (table .entry))) phase) ⌝ }
+{
+    let mut list: [u16; 16] = [0; 16];
+    let mut notes: [u64; 48] = [0; 48];
+    survey_in(table, g, phase, &mut list, &mut notes)
+}
+
+// Of at most 64 items.
+fn survey_64(table: &[u64], g: Geometry, phase: u64) -> bool
+    requires { ⌜ (g .items ≤ 64) × Surveyable g (now table) ⌝ }
+    ensures { λ r. ⌜ r ≡ (nodesSound g (view g (now (table .entry))) && itemsSound g (view g (now (table .entry))) phase) ⌝ }
+{
+    let mut list: [u16; 64] = [0; 64];
+    let mut notes: [u64; 192] = [0; 192];
+    survey_in(table, g, phase, &mut list, &mut notes)
+}
+
+// Of at most 256 items.
+fn survey_256(table: &[u64], g: Geometry, phase: u64) -> bool
+    requires { ⌜ Surveyable g (now table) ⌝ }
+    ensures { λ r. ⌜ r ≡ (nodesSound g (view g (now (table .entry))) && itemsSound g (view g (now (table .entry))) phase) ⌝ }
+{
+    let mut list: [u16; 256] = [0; 256];
+    let mut notes: [u64; 768] = [0; 768];
+    survey_in(table, g, phase, &mut list, &mut notes)
+}
+
+// Whether nodes and items are sound. The list and the notes are as long as the items ask for.
+pub(crate) fn survey(table: &[u64], g: Geometry, phase: u64) -> bool
+    requires { ⌜ Surveyable g (now table) ⌝ }
+    ensures { λ r. ⌜ r ≡ (nodesSound g (view g (now (table .entry))) && itemsSound g (view g (now (table .entry))) phase) ⌝ }
+{
+    let items = g.items;
+    if items <= 16 {
+        return survey_16(table, g, phase);
+    }
+    if items <= 64 {
+        return survey_64(table, g, phase);
+    }
+    survey_256(table, g, phase)
+}
