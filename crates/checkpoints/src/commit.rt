@@ -1,6 +1,8 @@
 // Commit: the created items become the recovery point.
 ghost use mathlib.Core.Path.{_≡_};
-ghost use Prim.Native.Nat.{_+_, _%_, _^_};
+ghost use Prim.Native.Nat.{_+_, _%_, _^_, _≤_};
+ghost use lib.ListN.{length};
+ghost use Rattle.table.specs.Geometry.{wordsOf};
 ghost use Rattle.table.specs.Stores.{Stored};
 ghost use Rattle.table.specs.View.{view};
 ghost use Rattle.table.specs.Answers.{Meets};
@@ -17,6 +19,7 @@ use table::words;
 
 // 8 no checkpoint open; 12 a dirty item not created.
 fn admit_commit(table: &[u64], g: Geometry) -> Admission
+    requires { ⌜ wordsOf g ≤ length (now table) ⌝ }
     ensures { λ r. ⌜ r ≡ commitAdmission g (view g (now (table .entry))) ⌝ }
 {
     let admission = checkpoint::admit_open(table, g);

@@ -1,6 +1,8 @@
 // Create: the lowest dirty item gets its two copies of the new point.
 ghost use mathlib.Core.Path.{_≡_};
-ghost use Prim.Native.Nat.{_<_};
+ghost use Prim.Native.Nat.{_<_, _≤_};
+ghost use lib.ListN.{length};
+ghost use Rattle.table.specs.Geometry.{wordsOf};
 ghost use Rattle.table.specs.Stores.{Stored};
 ghost use Rattle.table.specs.View.{view};
 ghost use Rattle.table.specs.Answers.{Meets};
@@ -100,6 +102,7 @@ fn create_item(table: &mut [u64], limit: u64, g: Geometry, item: u16) -> Answer
 
 // The lowest dirty item is created; 17 if none is left.
 fn create_next(table: &mut [u64], limit: u64, g: Geometry) -> Answer
+    requires { ⌜ wordsOf g ≤ length (now table) ⌝ }
     ensures { λ r. ⌜ Meets (createPlan g (view g (now (table .entry)))) limit (now (table .entry)) (now (table .exit)) r ⌝ }
 {
     let item = crate::checkpoint::dirty_item(table, g);

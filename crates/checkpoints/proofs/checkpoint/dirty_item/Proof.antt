@@ -1,30 +1,17 @@
--- `dirty_item` meets its contract: nothing is found before `item`. Assumes nothing.
+-- `dirty_item` meets its contract: `found` is the lowest item that a node before `node` owns. Assumes nothing.
 use Prim.Native.Nat.{_≤_, _-_}
-use mathlib.Core.Path.{_≡_, sym}
+use mathlib.Core.Path.{_≡_}
 use borrow.Author.Needs.{needs}
-use Rattle.counting.specs.First.{first, first-starts, first-turns, first-found, first-ends}
 use Rattle.table.specs.View.{view}
-use Rattle.checkpoints.specs.Checkpoint.{dirty, dirtyItem, is-dirty, not-dirty}
+use Rattle.checkpoints.specs.Checkpoint.{dirtyBefore, dirty-starts, dirty-turns, dirty-bound, dirty-ends}
 use Rattle.checkpoints.proofs.checkpoint.dirty_item.Statement.{statement}
 use Rattle.checkpoints.proofs.checkpoint.dirty_item.Tie as tie
 
 abbrev Inv-loop : tie.InvT-loop
-Inv-loop table g nodes items item₀ item = (item ≤ g .items) × (first (dirty g (view g table)) item ≡ item)
+Inv-loop table g nodes found₀ node₀ found node = (node ≤ g .nodes) × (found ≡ dirtyBefore g (view g table) node)
 
 abbrev μ-loop : tie.MeasureT-loop
-μ-loop table g nodes items item₀ item = g .items - item
-
-returns : tie.Need-returns Inv-loop μ-loop
-unfolding dirtyItem
-returns c = let l = c .before .before .before in sym (first-found _ _ _ (l .loop .inv .1) (is-dirty _ _ _ (c .before .owner-of .ensures) (c .if1 .taken)) (c .before .before .loop-test .taken))
-
-loop-again : tie.Need-loop-again Inv-loop μ-loop
-unfolding dirtyItem
-loop-again c = (search needs, first-turns _ _ (c .before .before .before .loop .inv .1) (not-dirty _ _ _ (c .before .owner-of .ensures) (c .if1 .left)))
-
-returns-2 : tie.Need-returns-2 Inv-loop μ-loop
-unfolding dirtyItem
-returns-2 c = first-ends _ _ _ (c .before .loop .inv .1) (c .before .loop .inv .0) (c .loop-test .left)
+μ-loop table g nodes found₀ node₀ found node = g .nodes - node
 
 pub dirty-item-spec : {M : Type 1} → statement M
 dirty-item-spec =
@@ -32,10 +19,9 @@ dirty-item-spec =
     (tie.spec
     Inv-loop
     μ-loop
-    (λ c. (search needs, first-starts _))
-    (λ c κs. search needs)
-    returns
+    (λ c. (search needs, dirty-starts _ _))
+    (λ c κs. let l = c .before in record { node = c .loop-test .taken; items = dirty-bound _ _ _ (l .loop .inv .1); long = l .before .before .pre })
     (λ c. search needs)
     (λ c. search needs)
-    loop-again
-    returns-2)
+    (λ c. (search needs, dirty-turns _ _ _ (c .before .before .loop .inv .1) (c .lowest-dirty .ensures)))
+    (λ c. dirty-ends _ _ _ (c .before .loop .inv .1) (c .before .loop .inv .0) (c .loop-test .left)))

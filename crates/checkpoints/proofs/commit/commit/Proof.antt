@@ -14,7 +14,7 @@ commit-spec =
     (λ c κs. search needs)
     (λ c. search needs)
     (λ c. search needs)
-    (λ c κs. search needs)
+    (λ c κs. passed-agreed _ _ (sym (c .before .before .before .before .check-table .ensures) ∙ c .before .before .checked2 .given .1) .long)
     (λ c. search needs)
     (λ c. search needs)
     (λ c κs. passed-agreed _ _ (sym (c .before .before .before .before .before .before .before .before .check-table .ensures) ∙ c .before .before .before .before .before .before .checked2 .given .1))

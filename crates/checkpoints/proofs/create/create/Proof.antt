@@ -1,6 +1,8 @@
 -- `create` meets its contract: a plan for each way out. Assumes nothing.
+use mathlib.Core.Path.{sym, _∙_}
 use Rattle.table.specs.Answers.{meets-refused}
 use Rattle.homes.specs.Plans.{plan-failed, plan-turned, plan-admitted, meets-as}
+use Rattle.checkpoints.specs.ClosingCode.{passed-agreed}
 use borrow.Author.Needs.{needs}
 use Rattle.checkpoints.proofs.create.create.Statement.{statement}
 use Rattle.checkpoints.proofs.create.create.Tie as tie
@@ -32,7 +34,7 @@ create-spec =
     (λ c κs. search needs)
     (λ c. search needs)
     (λ c. search needs)
-    (λ c κs. search needs)
+    (λ c κs. let k = c .before .before .before .before .before .before in passed-agreed _ _ (sym (k .before .before .check-table .ensures) ∙ k .checked2 .given .1) .long)
     (λ c. search needs)
     returns
     (λ c. search needs)
