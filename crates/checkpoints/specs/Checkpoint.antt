@@ -1,8 +1,8 @@
 -- What Open, Create, Commit and Abandon have in common: the phase, the dirty items, the entries by node, then item.
-use Prim.Native.Nat.{ℕ, _+_, _*_, _/_, _%_, _<_, _≤_}
-use mathlib.Core.Path.{_≡_, refl, sym, ap, _∙_}
+use Prim.Native.Nat.{ℕ, zero, suc, _+_, _*_, _/_, _%_, _<_, _≤_}
+use mathlib.Core.Path.{_≡_, refl, sym, ap, ap₂, _∙_}
 use mathlib.Core.Bool.{Bool, cond, not, _&&_, _||_}
-use mathlib.Core.List.{List, []}
+use mathlib.Core.List.{List, [], _++_, map}
 use native.Mathlib.Omega.{arith}
 use native.Mathlib.Nat.{mul-le-mul-right}
 use lib.Dec.{eqb, ltb}
@@ -12,12 +12,12 @@ use Rattle.counting.specs.Tests.{and-both}
 use Rattle.counting.specs.First.{first, first-turns, first-found, first-ext, first-none, first-le, first-either, found-next}
 use Rattle.table.specs.declared.geometry.Geometry.{Geometry}
 use Rattle.table.specs.declared.answers.Refusal.the-variants.{NoCheckpoint}
-use Rattle.table.specs.Geometry.{wordsOf, entryWords, entryAt}
+use Rattle.table.specs.Geometry.{wordsOf, entryWords, entryAt, entry-within}
 use Rattle.table.specs.Words.{owner, modified, precommit1, precommit2, phaseOf, currentOf}
-use Rattle.table.specs.Stores.{Store, Change, Stored}
+use Rattle.table.specs.Stores.{Store, Change, entryStore, Stored, StoredIn, runs, runs-ext, stored-as, stored-none}
 use Rattle.table.specs.View.{Entry, View, view, current, live, mark-none, entry-word, state-read}
 use Rattle.table.specs.Pass.{pass}
-use Rattle.table.specs.PassTurns.{Local, nodes-turn, nodes-start}
+use Rattle.table.specs.PassTurns.{Local, items-turn, nodes-turn, nodes-start}
 use Rattle.homes.specs.declared.admission.Admission.{Admission}
 use Rattle.homes.specs.declared.admission.Admission.the-variants.{Admitted, Turned}
 
@@ -90,6 +90,46 @@ module _ (change : Entry → List Change) (v : View) (n b : ℕ) {mark : ℕ} (h
   pub changes-live : (mark ≡ 0 → ⊥) → liveChanges change v n b ≡ change (v .entry n b)
   unfolding liveChanges
   changes-live d = rw (← h, ne-eqb mark 0 d) refl
+
+-- the place of the state word of an entry that is there, in a table that has all its words
+pub record Lies (g : Geometry) (t : List ℕ) (n b at : ℕ) : Type 0 where
+  pub node : n < g .nodes
+  pub item : b < g .items
+  pub place : at ≡ entryAt g n b
+  pub long : wordsOf g ≤ length t
+
+module _ {g : Geometry} {t : List ℕ} {n b at : ℕ} (h : Lies g t n b at) where
+  pub lies-within : at + 2 < length t
+  lies-within = omega (arith, entry-within g (h .node) (h .item), h .place, h .long)
+
+  pub lies-state : getD t at 0 ≡ view g t .entry n b .state
+  lies-state =
+      entry-word g t n b 0 (and-both (lt-ltb n (g .nodes) (h .node)) (lt-ltb b (g .items) (h .item))) (omega (arith, h .place)) refl ∙ state-read g t n b
+
+-- the pass over a live node's entries, item by item, and a dead node's
+module _ (change : Entry → List Change) (g : Geometry) {left left₁ : ℕ} {t t₁ : List ℕ} (n : ℕ) where
+  pub live-turn :
+      (b : ℕ) → wordsOf g ≤ length t → n < g .nodes → b < g .items
+      → Stored g left (pass (λ d. n) (λ d. d) (λ d. change (view g t .entry n d)) b) t t₁ left₁ → {left₂ : ℕ} {t₂ : List ℕ}
+      → StoredIn g left₁ n b (change (view g t₁ .entry n b)) t₁ t₂ left₂
+      → Stored g left (pass (λ d. n) (λ d. d) (λ d. change (view g t .entry n d)) (b + 1)) t t₂ left₂
+  live-turn b long l k s r = items-turn (λ v n b. change (v .entry n b)) (λ v w n b m e. ap change e) g long n b l k s r
+
+  pub live-node :
+      {mark : ℕ} → mark ≡ view g t .mark n → (mark ≡ 0 → ⊥)
+      → Stored g left (pass (λ d. n) (λ d. d) (λ d. change (view g t .entry n d)) (g .items)) t t₁ left₁
+      → Stored g left (pass (λ d. n) (λ d. d) (λ d. liveChanges change (view g t) n d) (g .items)) t t₁ left₁
+  live-node h d s = stored-as (runs-ext (g .items) _ _ (λ b l. ap (map (entryStore n b)) (changes-live change (view g t) n b h d))) s
+
+pub dead-node :
+    (change : Entry → List Change) (g : Geometry) {left : ℕ} {t : List ℕ} (n : ℕ) {mark : ℕ} → mark ≡ view g t .mark n → mark ≡ 0
+    → Stored g left (pass (λ d. n) (λ d. d) (λ d. liveChanges change (view g t) n d) (g .items)) t t left
+unfolding runs
+dead-node change g {left} {t} n h d = stored-as (none (g .items)) (stored-none g left t)
+  where
+    none : (m : ℕ) → pass (λ d. n) (λ d. d) (λ d. liveChanges change (view g t) n d) m ≡ []
+    none zero = refl
+    none (suc m) = ap₂ _++_ (none m) (ap (map (entryStore n m)) (changes-dead change (view g t) n m h d))
 
 -- the search for the lowest live mark
 module _ (g : Geometry) (t : List ℕ) (k : ℕ) (e : first (live (view g t)) k ≡ k) where
@@ -172,9 +212,7 @@ module _ {g : Geometry} {t : List ℕ} {n m start : ℕ} (h : Row g t n m) (e : 
   row-within = let k : n + 1 ≤ g .nodes = omega (arith, h .node) in omega (arith, mul-le-mul-right (g .items) k, h .items, h .long)
 
   pub row-state : (b : ℕ) → b < m → getD t (start + entryWords * b) 0 ≡ view g t .entry n b .state
-  row-state b l =
-      let k : b < g .items = omega (arith, h .items) in
-      entry-word g t n b 0 (and-both (lt-ltb n (g .nodes) (h .node)) (lt-ltb b (g .items) k)) (omega arith) refl ∙ state-read g t n b
+  row-state b l = lies-state (record { node = h .node; item = omega (arith, h .items); place = omega arith; long = h .long })
 
   -- a live node's
   pub lowest-live : {mark : ℕ} → mark ≡ view g t .mark n → (mark ≡ 0 → ⊥) → first (rowOwns t start) m ≡ first (λ b. ownsAt (view g t) b n) m

@@ -8,7 +8,7 @@ ghost use Rattle.table.specs.Stores.{Stored, StoredIn};
 ghost use Rattle.table.specs.View.{view};
 ghost use Rattle.table.specs.MarksPass.{markTo};
 ghost use Rattle.table.specs.Pass.{pass};
-ghost use Rattle.checkpoints.specs.Checkpoint.{commonMark, openAdmission, owns, ownsAt, ownerOf, dirtyItem, rowOwns, Row, liveChanges, entriesTo};
+ghost use Rattle.checkpoints.specs.Checkpoint.{commonMark, openAdmission, owns, ownsAt, ownerOf, dirtyItem, rowOwns, Row, Lies, liveChanges, entriesTo};
 ghost use Rattle.checkpoints.specs.Closing.{closeChange};
 ghost use Rattle.checkpoints.specs.ClosingCode.{MarksStored};
 use homes::admission::Admission;
@@ -150,11 +150,20 @@ pub fn marks_to(table: &mut [u64], left: u64, g: Geometry, word: u64) -> u64
     left
 }
 
-// An entry as the checkpoint ends: one state store where it changes.
-fn close_change(table: &mut [u64], left: u64, g: Geometry, node: u8, item: u16, way: Closing) -> u64
+// An entry as the checkpoint ends: one state store where it changes. `at` is the place of its state word.
+fn close_change(
+    table: &mut [u64],
+    left: u64,
+    g: Geometry,
+    node: u8,
+    item: u16,
+    at: usize,
+    way: Closing,
+) -> u64
+    requires { ⌜ Lies g (now table) node item at ⌝ }
     ensures { λ r. ⌜ StoredIn g left node item (closeChange way (view g (now (table .entry)) .entry node item)) (now (table .entry)) (now (table .exit)) r ⌝ }
 {
-    let state = stores::state_at(table, g, node, item);
+    let state = table[at];
     let current = words::current_of(state);
     let kept = words::kept_of(state);
     let precommit = (current == words::PRECOMMIT1) | (current == words::PRECOMMIT2);
@@ -176,30 +185,33 @@ fn close_change(table: &mut [u64], left: u64, g: Geometry, node: u8, item: u16, 
     }
 }
 
-// The turn of one entry: a dead node's is passed over.
-fn close_entry(table: &mut [u64], left: u64, g: Geometry, node: u8, item: u16, way: Closing) -> u64
-    ensures { λ r. ⌜ StoredIn g left node item (liveChanges (closeChange way) (view g (now (table .entry))) node item) (now (table .entry)) (now (table .exit)) r ⌝ }
+// A live node's entries, items ascending.
+fn close_live(table: &mut [u64], left: u64, g: Geometry, node: u8, way: Closing) -> u64
+    requires { ⌜ (node < g .nodes) × (wordsOf g ≤ length (now table)) ⌝ }
+    ensures { λ r. ⌜ Stored g left (pass (λ d. node) (λ d. d) (λ d. closeChange way (view g (now (table .entry)) .entry node d)) (g .items)) (now (table .entry)) (now (table .exit)) r ⌝ }
+{
+    let items = g.items;
+    let mut left = left;
+    let mut at = g.entry_at(node, 0);
+    let mut item: u16 = 0;
+    while item < items {
+        left = close_change(table, left, g, node, item, at, way);
+        at += Geometry::ENTRY_WORDS;
+        item += 1;
+    }
+    left
+}
+
+// A node's entries: a dead node's are passed over.
+fn close_node(table: &mut [u64], left: u64, g: Geometry, node: u8, way: Closing) -> u64
+    requires { ⌜ (node < g .nodes) × (wordsOf g ≤ length (now table)) ⌝ }
+    ensures { λ r. ⌜ Stored g left (pass (λ d. node) (λ d. d) (λ d. liveChanges (closeChange way) (view g (now (table .entry))) node d) (g .items)) (now (table .entry)) (now (table .exit)) r ⌝ }
 {
     let mark = stores::mark_at(table, g, node);
     if mark == 0 {
         return left;
     }
-    close_change(table, left, g, node, item, way)
-}
-
-// A node's entries, items ascending.
-fn close_node(table: &mut [u64], left: u64, g: Geometry, node: u8, way: Closing) -> u64
-    requires { ⌜ (node < g .nodes) × (wordsOf g ≤ length (now table)) ⌝ }
-    ensures { λ r. ⌜ Stored g left (pass (λ d. node) (λ d. d) (λ d. liveChanges (closeChange way) (view g (now (table .entry))) node d) (g .items)) (now (table .entry)) (now (table .exit)) r ⌝ }
-{
-    let items = g.items;
-    let mut left = left;
-    let mut item: u16 = 0;
-    while item < items {
-        left = close_entry(table, left, g, node, item, way);
-        item += 1;
-    }
-    left
+    close_live(table, left, g, node, way)
 }
 
 // All entries, by node, then item.
