@@ -1,4 +1,4 @@
--- What is counted of one item over the live nodes; and the code's tally of it.
+-- What is counted of one item over the live nodes.
 use mathlib.Core.Bool.{Bool, not, _&&_}
 use Prim.Native.Nat.{ℕ}
 use lib.Dec.{eqb}
