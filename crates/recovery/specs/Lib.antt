@@ -24,6 +24,7 @@ pub mod Rehearsed
 pub mod SurvivorsCode
 pub mod SidesCode
 pub mod RollingCode
+pub mod Rows
 pub mod NumberingCode
 pub mod Followed
 pub mod PartnersCounts

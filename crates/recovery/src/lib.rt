@@ -7,6 +7,7 @@ mod partners;
 pub mod recover;
 pub mod rehearse;
 mod rolling;
+mod rows;
 mod scratch;
 pub mod sides;
 pub mod survivors;

@@ -1,0 +1,188 @@
+-- The occupied entries of a node, as the code lists them, and the passes over a list in the place of all items.
+use Prim.Native.Nat.{ℕ, zero, suc, _+_, _*_, _-_, _<_, _≤_}
+use mathlib.Core.Path.{_≡_, refl, sym, ap, _∙_}
+use mathlib.Core.Bool.{Bool, true, false, not}
+use mathlib.Core.List.{List}
+use native.Mathlib.Omega.{arith}
+use native.Mathlib.Decide.{ℕ-discrete, decLt}
+use native.Mathlib.Nat.{suc-mul, mul-le-mul-right}
+use native.Mathlib.Numerals.{add-one}
+use mir.Val.{boolByte}
+use lib.Dec.{eqb}
+use lib.ListN.{length, getD, set, length-set}
+use lib.Seq.{getD-set-same, getD-set-other}
+use Rattle.counting.specs.Tests.{and-both, by-cases}
+use borrow.Author.Tests.{lt-ltb, eqb-true}
+use Rattle.table.specs.declared.geometry.Geometry.{Geometry}
+use Rattle.table.specs.Geometry.{wordsOf, entryAt, Placed, entry-within}
+use Rattle.table.specs.View.{View, view, entry-read}
+
+-- the state words of a row of entries that starts at a word
+unfoldable pub rowState : List ℕ → ℕ → ℕ → ℕ
+rowState t start b = getD t (start + 3 * b) 0
+
+-- the state word of node n's entry of item b
+abbrev pub stateIn : View → ℕ → ℕ → ℕ
+stateIn v n b = v .entry n b .state
+
+-- the item after the first k of a list
+unfoldable pub reached : List ℕ → ℕ → ℕ
+reached l zero = 0
+reached l (suc k) = getD l k 0 + 1
+
+-- the first r of the list are the items below m at which f is not 0, ascending: before each of them, and after the last, f is 0
+pub record Listed (f : ℕ → ℕ) (m : ℕ) (l : List ℕ) (r : ℕ) : Type 0 where
+  pub few : r ≤ m
+  pub room : r ≤ length l
+  pub all : reached l r ≤ m
+  pub ascends : (k : ℕ) → k < r → reached l k ≤ getD l k 0
+  pub below : (k : ℕ) → k < r → getD l k 0 < m
+  pub gap : (k : ℕ) → k < r → (j : ℕ) → reached l k ≤ j → j < getD l k 0 → f j ≡ 0
+  pub rest : (j : ℕ) → reached l r ≤ j → j < m → f j ≡ 0
+
+pub record Listing (f : ℕ → ℕ) (m : ℕ) (l l′ : List ℕ) (r : ℕ) : Type 0 where
+  pub listed : Listed f m l′ r
+  pub size : length l′ ≡ length l
+
+-- ---- the list grows
+
+pub reached-start : (l : List ℕ) → reached l 0 ≡ 0
+unfolding reached
+reached-start l = refl
+
+pub reached-next : (l : List ℕ) (k : ℕ) → reached l (k + 1) ≡ getD l k 0 + 1
+unfolding reached
+reached-next l k = rw add-one refl
+
+-- a word further on is not looked at
+reached-set : (l : List ℕ) (r x k : ℕ) → k ≤ r → reached (set l r x) k ≡ reached l k
+unfolding reached
+reached-set l r x zero h = refl
+reached-set l r x (suc k) h = ap (λ y. y + 1) (getD-set-other l r k x 0 (λ (e : k ≡ r). omega arith))
+
+pub listing-none : (f : ℕ → ℕ) (l : List ℕ) → Listing f 0 l l 0
+unfolding reached
+listing-none f l = record {
+  listed = record {
+    few = omega arith;
+    room = omega arith;
+    all = omega arith;
+    ascends = λ k h. absurd (omega arith);
+    below = λ k h. absurd (omega arith);
+    gap = λ k h. absurd (omega arith);
+    rest = λ j h l. absurd (omega arith);
+  };
+  size = refl;
+}
+
+module _ (f : ℕ → ℕ) (m : ℕ) {l l′ : List ℕ} {r : ℕ} (h : Listing f m l l′ r) (room : m < length l) where
+  same : (k : ℕ) → k < r → getD (set l′ r m) k 0 ≡ getD l′ k 0
+  same k q = getD-set-other l′ r k m 0 (λ (e : k ≡ r). omega arith)
+
+  pub listing-skip : f m ≡ 0 → Listing f (m + 1) l (set l′ r m) r
+  listing-skip e =
+      let o = h .listed in
+      record {
+        listed = record {
+          few = omega (arith, o .few);
+          room = rw (length-set l′ r m) (o .room);
+          all = rw (reached-set l′ r m r (omega arith)) (omega (arith, o .all));
+          ascends = λ k q. rw (same k q, reached-set l′ r m k (omega arith)) (o .ascends k q);
+          below = λ k q. rw (same k q) (omega (arith, o .below k q));
+          gap = λ k q. rw (same k q, reached-set l′ r m k (omega arith)) (o .gap k q);
+          rest = rw (reached-set l′ r m r (omega arith))
+              (λ j p q. elim (ℕ-discrete j m) [ yes z ↦ rw z e | no z ↦ o .rest j p (omega arith) ]);
+        };
+        size = length-set l′ r m ∙ h .size;
+      }
+
+  pub listing-add : Listing f (m + 1) l (set l′ r m) (r + 1)
+  listing-add =
+      let o = h .listed in
+      let z : getD (set l′ r m) r 0 ≡ m = getD-set-same l′ r m 0 (omega (arith, o .few, h .size)) in
+      record {
+        listed = record {
+          few = omega (arith, o .few);
+          room = rw (length-set l′ r m) (omega (arith, o .few, h .size));
+          all = rw (reached-next (set l′ r m) r, z) (omega arith);
+          ascends = λ k q. elim (ℕ-discrete k r) [
+            | yes e ↦ rw (e, reached-set l′ r m r (omega arith), z) (o .all)
+            | no e ↦ rw (same k (omega arith), reached-set l′ r m k (omega arith)) (o .ascends k (omega arith))
+          ];
+          below = λ k q. elim (ℕ-discrete k r) [ yes e ↦ rw (e, z) (omega arith) | no e ↦ rw (same k (omega arith)) (let b = o .below k (omega arith) in omega arith) ];
+          gap = λ k q. elim (ℕ-discrete k r) [
+            | yes e ↦ rw (e, reached-set l′ r m r (omega arith), z) (o .rest)
+            | no e ↦ rw (same k (omega arith), reached-set l′ r m k (omega arith)) (o .gap k (omega arith))
+          ];
+          rest = rw (reached-next (set l′ r m) r, z) (λ j p q. absurd (omega arith));
+        };
+        size = length-set l′ r m ∙ h .size;
+      }
+
+  -- as the code counts
+  pub listing-turn : {w : ℕ} → w ≡ f m → Listing f (m + 1) l (set l′ r m) (r + boolByte (not (eqb w 0)))
+  listing-turn {w} e =
+      by-cases (eqb w 0)
+      (λ q. let z : r + 0 ≡ r = omega arith in rw (q, z) (listing-skip (sym e ∙ eqb-true w 0 q)))
+      (λ q. rw q listing-add)
+
+pub byte-small : (b : Bool) → boolByte b ≤ 1
+byte-small true = omega arith
+byte-small false = omega arith
+
+pub row-read : (t : List ℕ) (start b : ℕ) {at : ℕ} → at ≡ start + 3 * b → getD t at 0 ≡ rowState t start b
+unfolding rowState
+row-read t start b a = ap (λ i. getD t i 0) a
+
+pub listing-ends : (f : ℕ → ℕ) {i m : ℕ} {l l′ : List ℕ} {r : ℕ} → i ≤ m → m ≤ i → Listing f i l l′ r → Listing f m l l′ r
+listing-ends f {i} {m} h k o = let e : i ≡ m = omega arith in rw e at o
+
+-- ---- a pass over the list in the place of all items: what holds at an item holds after it where f is 0
+
+module _ (P : ℕ → Type 0) (f : ℕ → ℕ) (zeros : (j : ℕ) → f j ≡ 0 → P j → P (j + 1)) where
+  skip : (i d : ℕ) → ((j : ℕ) → i ≤ j → j < i + d → f j ≡ 0) → P i → P (i + d)
+  skip i zero h p = let e : i + 0 ≡ i = omega arith in rw e p
+  skip i (suc d) h p =
+      let e : i + d + 1 ≡ i + suc d = omega arith in
+      rw (← e) (zeros (i + d) (h (i + d) (omega arith) (omega arith)) (skip i d (λ j a b. h j a (omega arith)) p))
+
+  skip-to : (i k : ℕ) → i ≤ k → ((j : ℕ) → i ≤ j → j < k → f j ≡ 0) → P i → P k
+  skip-to i k l h p = let e : i + (k - i) ≡ k = omega arith in rw (← e) (skip i (k - i) (λ j a b. h j a (omega arith)) p)
+
+  module _ {m : ℕ} {l : List ℕ} {r : ℕ} (o : Listed f m l r) where
+    pub listed-turn : (k : ℕ) → k < r → P (reached l k) → P (getD l k 0)
+    listed-turn k h p = skip-to (reached l k) (getD l k 0) (o .ascends k h) (o .gap k h) p
+
+    pub listed-end : (k : ℕ) → k ≤ r → r ≤ k → P (reached l k) → P m
+    listed-end k h q p = let e : k ≡ r = omega arith in skip-to (reached l r) m (o .all) (o .rest) (rw e at p)
+
+-- ---- the row of a node
+
+pub listed-ext : {f h : ℕ → ℕ} {m : ℕ} {l l′ : List ℕ} {r : ℕ} → ((j : ℕ) → j < m → f j ≡ h j) → Listing f m l l′ r → Listing h m l l′ r
+listed-ext same o =
+    let p = o .listed in
+    record {
+      listed = record {
+        few = p .few;
+        room = p .room;
+        all = p .all;
+        ascends = p .ascends;
+        below = p .below;
+        gap = λ k q j a b. sym (same j (omega (arith, p .below k q))) ∙ p .gap k q j a b;
+        rest = λ j a b. sym (same j b) ∙ p .rest j a b;
+      };
+      size = o .size;
+    }
+
+module _ (g : Geometry) (t : List ℕ) (n : ℕ) (h : n < g .nodes) {start : ℕ} (a : Placed g n 0 start) where
+  pub row-state : (b : ℕ) → b < g .items → rowState t start b ≡ stateIn (view g t) n b
+  unfolding rowState
+  row-state b k =
+      let e : start + 3 * b ≡ entryAt g n b + 0 = omega (arith, a .at) in
+      ap (λ i. getD t i 0) e ∙ sym (ap (λ x. x .state) (entry-read g t n b (and-both (lt-ltb _ _ h) (lt-ltb _ _ k))))
+
+  pub row-room : wordsOf g ≤ length t → start + 3 * g .items ≤ length t
+  row-room long = let p = rw suc-mul at (mul-le-mul-right (g .items) h) in omega (arith, a .at)
+
+  pub row-listed : {l l′ : List ℕ} {r : ℕ} → Listing (rowState t start) (g .items) l l′ r → Listing (stateIn (view g t) n) (g .items) l l′ r
+  row-listed = listed-ext row-state
