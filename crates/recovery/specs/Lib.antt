@@ -23,8 +23,8 @@ pub mod Rehearsed
 -- ---- the ways of the code
 pub mod SurvivorsCode
 pub mod SidesCode
-pub mod RollingCode
 pub mod Rows
+pub mod RollingCode
 pub mod NumberingCode
 pub mod Followed
 pub mod PartnersCounts

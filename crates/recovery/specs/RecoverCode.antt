@@ -55,6 +55,7 @@ pub record Carriable (g : Geometry) (lost : Lost) (t s : List ℕ) : Type 0 wher
   pub long : wordsOf g ≤ length t
   pub room : scratchWords g ≤ length s
   pub inside : lostOutside g lost ≡ false
+  pub items : g .items ≤ 256
 
 -- ---- the refusals, one by one
 
@@ -112,7 +113,8 @@ module _ (t : List ℕ) (lost : Lost) (scratch : ℕ) {c : Checked} (e : c ≡ s
     pub recover-carriable : a ≡ Admitted → (s : List ℕ) → scratch ≡ length s → Carriable g lost t s
     recover-carriable q s n =
         let r = recover-carries t lost scratch (recover-admitted q) in
-        record { long = sizes-facts t g (sym e ∙ h) .long; room = omega (arith, r .enough); inside = r .inside }
+        let f = sizes-facts t g (sym e ∙ h) in
+        record { long = f .long; room = omega (arith, r .enough); inside = r .inside; items = f .sizes .items-high }
 
 -- ---- carried out
 

@@ -1,28 +1,29 @@
 -- The ways of the code that rolls the entries: a law for each, over what the code has read.
-use Prim.Native.Nat.{ℕ, _+_, _≤_, _<_}
+use Prim.Native.Nat.{ℕ, zero, suc, _+_, _%_, _≤_, _<_}
 use mathlib.Core.Path.{_≡_, refl, sym, ap, _∙_}
 use mathlib.Core.Bool.{Bool, true, false, cond, not, _&&_}
 use mathlib.Core.List.{List, [], _∷_, _++_, map, append-assoc}
 use native.Mathlib.Omega.{arith}
 use lib.Dec.{eqb}
-use lib.ListN.{length}
-use borrow.Author.Tests.{eq-eqb, ne-eqb}
+use lib.ListN.{length, getD}
+use borrow.Author.Tests.{eq-eqb, ne-eqb, eqb-true}
+use Rattle.counting.specs.Counting.{every, every-at}
 use Rattle.table.specs.declared.geometry.Geometry.{Geometry}
-use Rattle.table.specs.declared.changes.Event.{Event}
 use Rattle.table.specs.Geometry.{wordsOf}
 use Rattle.table.specs.Words.{invalid, currentOf, keptOf}
-use Rattle.table.specs.Changes.{changeOf}
-use Rattle.table.specs.Stores.{Change, Stored, StoredIn, entryStore, stateTo, valueTo, stored-three, stored-as}
+use Rattle.table.specs.Changes.{changes, changeOf}
+use Rattle.table.specs.Stores.{Store, Change, Stored, StoredIn, entryStore, stateTo, valueTo, runs, runs-ext, stored-none, stored-three, stored-as, loop-starts, loop-turns}
 use Rattle.table.specs.View.{Entry, View, view, current, kept}
 use Rattle.table.specs.Pass.{pass}
 use Rattle.table.specs.PassTurns.{Local, items-turn, nodes-turn}
-use Rattle.checkpoints.specs.Checkpoint.{liveChanges, entriesBefore, entriesTo, changes-local, changes-live}
+use Rattle.checkpoints.specs.Checkpoint.{liveChanges, entriesBefore, entriesTo, changes-local, changes-live, changes-dead}
 use Rattle.recovery.specs.declared.lost.Lost.{Lost}
 use Rattle.recovery.specs.declared.lost.Lost.the-variants.{Nobody, Node}
 use Rattle.recovery.specs.Survivors.{survivors}
 use Rattle.recovery.specs.Sides.{sideEvent}
 use Rattle.recovery.specs.Rolling.{bringBack, settled, rollChange}
 use Rattle.recovery.specs.SurvivorsCode.{survivor-entry}
+use Rattle.recovery.specs.Rows.{stateIn, Listed, reached, reached-start, reached-next, listed-turn, listed-end}
 
 -- ---- one entry
 
@@ -41,10 +42,24 @@ module _ (e : Entry) {w c k : ℕ} (z : w ≡ e .state) (p : c ≡ currentOf w) 
     roll-back h = rw (← z, ← q, h) refl
 
     pub roll-settles :
-        (not forward && not (eqb k invalid)) ≡ false → {event : Event} {next : ℕ} → event ≡ sideEvent forward → next ≡ changeOf c event
-        → rollChange forward e ≡ settled next e
+        (not forward && not (eqb k invalid)) ≡ false → {next : ℕ} → next ≡ changeOf c (sideEvent forward) → rollChange forward e ≡ settled next e
     unfolding rollChange
-    roll-settles h a b = rw (← z, ← p, ← q, h, b, a) refl
+    roll-settles h b = rw (← z, ← p, ← q, h, b) refl
+
+-- what a current place becomes as it rolls: digits from '0', which is 48
+abbrev onDigits : List ℕ
+onDigits = 48 ∷ 48 ∷ 48 ∷ 48 ∷ 52 ∷ 53 ∷ 52 ∷ 53 ∷ []
+
+abbrev backDigits : List ℕ
+backDigits = 48 ∷ 48 ∷ 48 ∷ 48 ∷ 52 ∷ 53 ∷ 48 ∷ 48 ∷ []
+
+pub rolled-on : (c : ℕ) {forward : Bool} → forward ≡ true → getD onDigits (c % 8) 0 % 16 ≡ changeOf c (sideEvent forward)
+unfolding changeOf every
+rolled-on c e = rw e (eqb-true _ _ (every-at 8 (λ i. eqb (getD onDigits i 0 % 16) (getD (getD changes i []) 5 0)) refl (c % 8) (omega arith)))
+
+pub rolled-back : (c : ℕ) {forward : Bool} → forward ≡ false → getD backDigits (c % 8) 0 % 16 ≡ changeOf c (sideEvent forward)
+unfolding changeOf every
+rolled-back c e = rw e (eqb-true _ _ (every-at 8 (λ i. eqb (getD backDigits i 0 % 16) (getD (getD changes i []) 4 0)) refl (c % 8) (omega arith)))
 
 -- "state with current Invalid if it was not"
 abbrev pub cleared : ℕ → ℕ → List Change
@@ -88,18 +103,90 @@ pub survivor-changes :
 survivor-changes change lost v n b h d =
     changes-live change (survivors lost v) n b h d ∙ ap (λ f. change (f n b)) (survivor-entry lost v)
 
+-- ---- a node's entries
+
+-- what the pass over a node's list needs
+pub record RollListed (g : Geometry) (n : ℕ) (t l : List ℕ) (count : ℕ) : Type 0 where
+  pub there : n < g .nodes
+  pub long : wordsOf g ≤ length t
+  pub listed : Listed (stateIn (view g t) n) (g .items) l count
+
+-- what a node's turn owes; of the list only its length is told
+pub record RolledNode (g : Geometry) (lost : Lost) (n : ℕ) (forward : Bool) (left : ℕ) (t t′ l l′ : List ℕ) (left′ : ℕ) : Type 0 where
+  pub stores : Stored g left (pass (λ d. n) (λ d. d) (λ d. liveChanges (rollChange forward) (survivors lost (view g t)) n d) (g .items)) t t′ left′
+  pub size : length l′ ≡ length l
+
+-- a state word 0 stays
+roll-blank : (forward : Bool) (e : Entry) → e .state ≡ 0 → rollChange forward e ≡ []
+unfolding rollChange settled changeOf
+roll-blank true e h = rw h refl
+roll-blank false e h = rw h refl
+
+entry-local : (forward : Bool) → Local (λ v n b. rollChange forward (v .entry n b))
+entry-local forward v w n b m e = ap (rollChange forward) e
+
+-- the items before the k-th of the list are passed
+unfoldable pub rolledTo : Geometry → ℕ → Bool → View → ℕ → List Store
+rolledTo g n forward v i = pass (λ d. n) (λ d. d) (λ d. rollChange forward (v .entry n d)) i
+
+pub listed-first :
+    (g : Geometry) (n : ℕ) (forward : Bool) (left : ℕ) (t l : List ℕ) → Stored g left (rolledTo g n forward (view g t) (reached l 0)) t t left
+unfolding rolledTo
+listed-first g n forward left t l = rw (reached-start l) (loop-starts g _ left t)
+
+module _ (g : Geometry) (n : ℕ) (forward : Bool) {left left₁ : ℕ} {t t₁ : List ℕ} where
+  passed-blank :
+      (j : ℕ) → stateIn (view g t) n j ≡ 0 → Stored g left (rolledTo g n forward (view g t) j) t t₁ left₁
+      → Stored g left (rolledTo g n forward (view g t) (j + 1)) t t₁ left₁
+  unfolding rolledTo
+  passed-blank j z s =
+      loop-turns _ j s (stored-as (ap (map (entryStore n j)) (roll-blank forward (view g t .entry n j) z)) (stored-none g left₁ t₁))
+
+  module _ {l : List ℕ} {count : ℕ} (o : RollListed g n t l count) (k : ℕ) (s : Stored g left (rolledTo g n forward (view g t) (reached l k)) t t₁ left₁) where
+    pub listed-next :
+        k < count → {left₂ : ℕ} {t₂ : List ℕ}
+        → StoredIn g left₁ n (getD l k 0) (rollChange forward (view g t₁ .entry n (getD l k 0))) t₁ t₂ left₂
+        → Stored g left (rolledTo g n forward (view g t) (reached l (k + 1))) t t₂ left₂
+    unfolding rolledTo
+    listed-next h r =
+        rw (reached-next l k)
+        (items-turn (λ v n b. rollChange forward (v .entry n b)) (entry-local forward) g (o .long) n (getD l k 0) (o .there) (o .listed .below k h)
+        (listed-turn (λ i. Stored g left (rolledTo g n forward (view g t) i) t t₁ left₁) (stateIn (view g t) n) passed-blank (o .listed) k h s) r)
+
+    pub listed-all :
+        k ≤ count → count ≤ k
+        → Stored g left (pass (λ d. n) (λ d. d) (λ d. rollChange forward (view g t .entry n d)) (g .items)) t t₁ left₁
+    unfolding rolledTo
+    listed-all h q =
+        listed-end (λ i. Stored g left (rolledTo g n forward (view g t) i) t t₁ left₁) (stateIn (view g t) n) passed-blank (o .listed) k h q s
+
+runs-empty : (n : ℕ) (f : ℕ → List Store) → ((i : ℕ) → i < n → f i ≡ []) → runs f n ≡ []
+unfolding runs
+runs-empty zero f h = refl
+runs-empty (suc n) f h = rw (runs-empty n f (λ i l. h i (omega arith)), h n (omega arith)) refl
+
+module _ (g : Geometry) (lost : Lost) (n : ℕ) (forward : Bool) {left mark : ℕ} {t l : List ℕ} (h : mark ≡ survivors lost (view g t) .mark n) where
+  pub node-passed-over : mark ≡ 0 → RolledNode g lost n forward left t t l l left
+  node-passed-over d = record {
+    stores = stored-as
+        (runs-empty (g .items) _ (λ b _. ap (map (entryStore n b)) (changes-dead (rollChange forward) (survivors lost (view g t)) n b h d)))
+        (stored-none g left t);
+    size = refl;
+  }
+
+  pub node-rolled :
+      (mark ≡ 0 → ⊥) → {left′ : ℕ} {t′ l′ : List ℕ}
+      → length l′ ≡ length l
+      → Stored g left (pass (λ d. n) (λ d. d) (λ d. rollChange forward (view g t .entry n d)) (g .items)) t t′ left′
+      → RolledNode g lost n forward left t t′ l l′ left′
+  node-rolled d q s = record {
+    stores = stored-as (runs-ext (g .items) _ _ (λ b _. ap (map (entryStore n b)) (survivor-changes (rollChange forward) lost (view g t) n b h d))) s;
+    size = q;
+  }
+
 -- ---- the pass over them
 
 module _ (change : Entry → List Change) (lost : Lost) (g : Geometry) {left left₁ : ℕ} {t t₁ : List ℕ} (long : wordsOf g ≤ length t) where
-  -- item k of node n
-  pub survivor-item :
-      (n k : ℕ) → n < g .nodes → k < g .items
-      → Stored g left (pass (λ d. n) (λ d. d) (λ d. liveChanges change (survivors lost (view g t)) n d) k) t t₁ left₁ → {left₂ : ℕ} {t₂ : List ℕ}
-      → Stored g left₁ (map (entryStore n k) (liveChanges change (survivors lost (view g t₁)) n k)) t₁ t₂ left₂
-      → Stored g left (pass (λ d. n) (λ d. d) (λ d. liveChanges change (survivors lost (view g t)) n d) (k + 1)) t t₂ left₂
-  survivor-item n k hn hk s r =
-      items-turn (λ v. liveChanges change (survivors lost v)) (survivor-local change lost) g long n k hn hk s r
-
   -- node n
   pub survivor-node :
       (n : ℕ) → n < g .nodes → Stored g left (entriesBefore g (survivors lost (view g t)) change n) t t₁ left₁ → {left₂ : ℕ} {t₂ : List ℕ}

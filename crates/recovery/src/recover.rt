@@ -70,7 +70,7 @@ fn close(table: &mut [u64], left: u64, g: Geometry, lost: Lost) -> u64
 
 // What is stored on the survivors, stage by stage.
 fn restore(table: &mut [u64], left: u64, g: Geometry, lost: Lost, scratch: &mut [u64]) -> u64
-    requires { ⌜ (wordsOf g ≤ length (now table)) × (g .nodes ≤ length (now scratch)) ⌝ }
+    requires { ⌜ (wordsOf g ≤ length (now table)) × ((g .nodes ≤ length (now scratch)) × (g .items ≤ 256)) ⌝ }
     ensures { λ r. ⌜ StagesStored g lost left (now (table .entry)) (now (table .exit)) (now (scratch .entry)) (now (scratch .exit)) r ⌝ }
 {
     let forward = sides::forward_in(table, g, lost);

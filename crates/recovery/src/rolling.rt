@@ -1,18 +1,20 @@
 // Rolling: the entries of the survivors go to the side that a recovery takes.
+ghost use mathlib.Core.Path.{_≡_};
 ghost use Prim.Native.Nat.{_<_, _≤_};
 ghost use lib.ListN.{length};
 ghost use Rattle.table.specs.Geometry.{wordsOf};
 ghost use Rattle.table.specs.Stores.{Stored, StoredIn};
 ghost use Rattle.table.specs.View.{view};
 ghost use Rattle.table.specs.Pass.{pass};
-ghost use Rattle.checkpoints.specs.Checkpoint.{liveChanges, entriesTo};
+ghost use Rattle.table.specs.Changes.{changeOf};
+ghost use Rattle.checkpoints.specs.Checkpoint.{entriesTo};
 ghost use Rattle.recovery.specs.Survivors.{survivors};
 ghost use Rattle.recovery.specs.Rolling.{bringBack, settled, rollChange};
-ghost use Rattle.recovery.specs.RollingCode.{cleared};
+ghost use Rattle.recovery.specs.Sides.{sideEvent};
+ghost use Rattle.recovery.specs.RollingCode.{cleared, RollListed, RolledNode};
 use crate::lost::Lost;
-use crate::sides;
+use crate::rows;
 use crate::survivors;
-use table::changes;
 use table::geometry::Geometry;
 use table::stores;
 use table::words;
@@ -69,6 +71,19 @@ fn bring_back(table: &mut [u64], left: u64, g: Geometry, node: u8, item: u16) ->
     stores::store_state(table, left, g, node, item, code, words::INVALID)
 }
 
+// What a current place becomes as it rolls: a digit for each code.
+fn rolled(current: u8, forward: bool) -> u8
+    ensures { λ r. ⌜ r ≡ changeOf current (sideEvent forward) ⌝ }
+{
+    let at = (current % 8) as usize;
+    let on = b"00004545";
+    let back = b"00004500";
+    if forward {
+        return on[at] % 16;
+    }
+    back[at] % 16
+}
+
 // An entry as it rolls.
 fn roll_change(table: &mut [u64], left: u64, g: Geometry, node: u8, item: u16, forward: bool) -> u64
     ensures { λ r. ⌜ StoredIn g left node item (rollChange forward (view g (now (table .entry)) .entry node item)) (now (table .entry)) (now (table .exit)) r ⌝ }
@@ -79,55 +94,65 @@ fn roll_change(table: &mut [u64], left: u64, g: Geometry, node: u8, item: u16, f
     if !forward & !(kept == words::INVALID) {
         return bring_back(table, left, g, node, item);
     }
-    let event = sides::side_event(forward);
-    let next = changes::change(current, event);
+    let next = rolled(current, forward);
     settle(table, left, g, node, item, next)
 }
 
-// The turn of one entry: a node that is no survivor is passed over.
-fn roll_entry(
+// A node's entries, items ascending: those in the list, for the others stay as they are.
+fn roll_listed(
+    table: &mut [u64],
+    left: u64,
+    g: Geometry,
+    node: u8,
+    forward: bool,
+    list: &[u16],
+    count: usize,
+) -> u64
+    requires { ⌜ RollListed g node (now table) (now list) count ⌝ }
+    ensures { λ r. ⌜ Stored g left (pass (λ d. node) (λ d. d) (λ d. rollChange forward (view g (now (table .entry)) .entry node d)) (g .items)) (now (table .entry)) (now (table .exit)) r ⌝ }
+{
+    let mut left = left;
+    let mut k: usize = 0;
+    while k < count {
+        let item = list[k];
+        left = roll_change(table, left, g, node, item, forward);
+        k += 1;
+    }
+    left
+}
+
+// The turn of one node: no survivor is passed over.
+fn roll_node(
     table: &mut [u64],
     left: u64,
     g: Geometry,
     lost: Lost,
     node: u8,
-    item: u16,
     forward: bool,
+    list: &mut [u16],
 ) -> u64
-    ensures { λ r. ⌜ StoredIn g left node item (liveChanges (rollChange forward) (survivors lost (view g (now (table .entry)))) node item) (now (table .entry)) (now (table .exit)) r ⌝ }
+    requires { ⌜ (node < g .nodes) × ((wordsOf g ≤ length (now table)) × (g .items ≤ length (now list))) ⌝ }
+    ensures { λ r. ⌜ RolledNode g lost node forward left (now (table .entry)) (now (table .exit)) (now (list .entry)) (now (list .exit)) r ⌝ }
 {
     let mark = survivors::survivor_mark(table, g, lost, node);
     if mark == 0 {
         return left;
     }
-    roll_change(table, left, g, node, item, forward)
-}
-
-// A node's entries, items ascending.
-fn roll_node(table: &mut [u64], left: u64, g: Geometry, lost: Lost, node: u8, forward: bool) -> u64
-    requires { ⌜ (node < g .nodes) × (wordsOf g ≤ length (now table)) ⌝ }
-    ensures { λ r. ⌜ Stored g left (pass (λ d. node) (λ d. d) (λ d. liveChanges (rollChange forward) (survivors lost (view g (now (table .entry)))) node d) (g .items)) (now (table .entry)) (now (table .exit)) r ⌝ }
-{
-    let items = g.items;
-    let mut left = left;
-    let mut item: u16 = 0;
-    while item < items {
-        left = roll_entry(table, left, g, lost, node, item, forward);
-        item += 1;
-    }
-    left
+    let count = rows::occupied(table, g, node, list);
+    roll_listed(table, left, g, node, forward, list, count)
 }
 
 // All entries of the survivors, by node, then item.
 pub(crate) fn roll(table: &mut [u64], left: u64, g: Geometry, lost: Lost, forward: bool) -> u64
-    requires { ⌜ wordsOf g ≤ length (now table) ⌝ }
+    requires { ⌜ (wordsOf g ≤ length (now table)) × (g .items ≤ 256) ⌝ }
     ensures { λ r. ⌜ Stored g left (entriesTo g (survivors lost (view g (now (table .entry)))) (rollChange forward)) (now (table .entry)) (now (table .exit)) r ⌝ }
 {
     let nodes = g.nodes;
+    let mut list: [u16; 256] = [0; 256];
     let mut left = left;
     let mut node: u8 = 0;
     while node < nodes {
-        left = roll_node(table, left, g, lost, node, forward);
+        left = roll_node(table, left, g, lost, node, forward, &mut list);
         node += 1;
     }
     left

@@ -4,7 +4,7 @@ ghost use Rattle.counting.specs.Counting.{every};
 ghost use Rattle.table.specs.View.{view};
 ghost use Rattle.table.specs.Copies.{backBy};
 ghost use Rattle.recovery.specs.Survivors.{survivors};
-ghost use Rattle.recovery.specs.Sides.{commits, forwardIn, sideEvent, copyOn, itemFits};
+ghost use Rattle.recovery.specs.Sides.{commits, forwardIn, copyOn, itemFits};
 ghost use Rattle.recovery.specs.SidesCode.{Copied, metAt};
 use crate::lost::Lost;
 use crate::survivors;
@@ -43,16 +43,6 @@ pub fn forward_in(table: &[u64], g: Geometry, lost: Lost) -> bool
         node += 1;
     }
     any
-}
-
-// The event of a side.
-pub fn side_event(forward: bool) -> Event
-    ensures { λ r. ⌜ r ≡ sideEvent forward ⌝ }
-{
-    if forward {
-        return Event::RollForward;
-    }
-    Event::RollBack
 }
 
 // The recovery copy by the number of the Shared-CK, 0 for none, the kept place, and the values of both.

@@ -1,5 +1,7 @@
 -- `roll` meets its contract: a turn finds its node's entries as they were at the start. Assumes nothing.
 use Prim.Native.Nat.{_≤_, _-_}
+use mathlib.Core.Path.{_≡_, refl, _∙_}
+use lib.ListN.{length}
 use Rattle.table.specs.Stores.{Stored}
 use Rattle.table.specs.View.{view}
 use Rattle.checkpoints.specs.Checkpoint.{entriesBefore, entries-start}
@@ -11,17 +13,19 @@ use Rattle.recovery.proofs.rolling.roll.Statement.{statement}
 use Rattle.recovery.proofs.rolling.roll.Tie as tie
 
 abbrev Inv-loop : tie.InvT-loop
-Inv-loop table₀ left g lost forward nodes left₀ node₀ table left' node =
-    (node ≤ g .nodes) × Stored g left (entriesBefore g (survivors lost (view g table₀)) (rollChange forward) node) table₀ table left'
+Inv-loop table₀ left g lost forward nodes list₀ left₀ node₀ table list left' node =
+    (node ≤ g .nodes)
+    × ((length list ≡ 256) × Stored g left (entriesBefore g (survivors lost (view g table₀)) (rollChange forward) node) table₀ table left')
 
 abbrev μ-loop : tie.MeasureT-loop
-μ-loop table₀ left g lost forward nodes left₀ node₀ table left' node = g .nodes - node
+μ-loop table₀ left g lost forward nodes list₀ left₀ node₀ table list left' node = g .nodes - node
 
 loop-again : tie.Need-loop-again Inv-loop μ-loop
 loop-again c =
-    let s = c .before .before in
-    let l = s .before .before .before in
-    (search needs, survivor-node (rollChange _) (l .before .before .args .lost) _ (l .before .before .pre) _ (s .before .before .loop-test .taken) (l .loop .inv .1) (s .roll-node .ensures))
+    let s = c .before .before .before in
+    let t = s .before .before .before in
+    let l = t .before in
+    (search needs, (s .roll-node .ensures .size ∙ l .loop .inv .1 .0, survivor-node (rollChange _) (l .before .before .args .lost) _ (l .before .before .pre .0) _ (t .loop-test .taken) (l .loop .inv .1 .1) (s .roll-node .ensures .stores)))
 
 pub roll-spec : {M : Type 1} → statement M
 roll-spec =
@@ -29,10 +33,11 @@ roll-spec =
     (tie.spec
     Inv-loop
     μ-loop
-    (λ c. (search needs, entries-start _ _ _ _ _))
+    (λ c. (search needs, (search needs, entries-start _ _ _ _ _)))
+    (λ c. search needs)
     (λ c κs. search needs)
     (λ c. search needs)
     (λ c. search needs)
     loop-again
     (λ c. search needs)
-    (λ c. survivors-end _ _ _ _ (c .before .loop .inv .0) (c .loop-test .left) (c .before .loop .inv .1)))
+    (λ c. survivors-end _ _ _ _ (c .before .loop .inv .0) (c .loop-test .left) (c .before .loop .inv .1 .1)))

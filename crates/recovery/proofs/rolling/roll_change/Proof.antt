@@ -19,6 +19,5 @@ roll-change-spec =
     (λ c. let s = c .before .before in let i = s .before .before in let k = i .before in let u = k .before in let e = u .before in stored-as (ap (map (entryStore _ _)) (roll-back _ (e .state-at .ensures) (u .current-of .ensures) (k .kept-of .ensures) _ (i .if1 .taken))) (s .bring-back .ensures))
     (λ c κs. search needs)
     (λ c κs. search needs)
-    (λ c κs. search needs)
     (λ c. search needs)
-    (λ c. let s = c .before .before in let x = s .before .before in let v = x .before in let i = v .before in let k = i .before in let u = k .before in let e = u .before in stored-as (ap (map (entryStore _ _)) (roll-settles _ (e .state-at .ensures) (u .current-of .ensures) (k .kept-of .ensures) _ (i .if1 .left) (v .side-event .ensures) (x .change .ensures))) (s .settle .ensures)))
+    (λ c. let s = c .before .before in let x = s .before .before in let i = x .before in let k = i .before in let u = k .before in let e = u .before in stored-as (ap (map (entryStore _ _)) (roll-settles _ (e .state-at .ensures) (u .current-of .ensures) (k .kept-of .ensures) _ (i .if1 .left) (x .rolled .ensures))) (s .settle .ensures)))

@@ -1,0 +1,44 @@
+-- `roll_listed` meets its contract: the items before the list's next are passed. Assumes nothing.
+use Prim.Native.Nat.{_≤_, _-_}
+use Rattle.table.specs.Stores.{Stored}
+use Rattle.table.specs.View.{view}
+use Rattle.recovery.specs.Rows.{reached}
+use Rattle.recovery.specs.RollingCode.{rolledTo, listed-first, listed-next, listed-all}
+use borrow.Author.Needs.{needs}
+use Rattle.recovery.proofs.rolling.roll_listed.Statement.{statement}
+use Rattle.recovery.proofs.rolling.roll_listed.Tie as tie
+
+abbrev Inv-loop : tie.InvT-loop
+Inv-loop table₀ left g node forward list count left₀ k₀ table left' k =
+    (k ≤ count) × Stored g left (rolledTo g node forward (view g table₀) (reached list k)) table₀ table left'
+
+abbrev μ-loop : tie.MeasureT-loop
+μ-loop table₀ left g node forward list count left₀ k₀ table left' k = count - k
+
+loop-again : tie.Need-loop-again Inv-loop μ-loop
+loop-again c =
+    let r = c .before .before in
+    let t = r .before .before .before in
+    let l = t .before in
+    (search needs, listed-next _ _ _ (l .before .before .before .pre) _ (l .loop .inv .1) (t .loop-test .taken) (r .roll-change .ensures))
+
+returns : tie.Need-returns Inv-loop μ-loop
+returns c =
+    let l = c .before in
+    listed-all _ _ _ (l .before .before .before .pre) _ (l .loop .inv .1) (l .loop .inv .0) (c .loop-test .left)
+
+pub roll-listed-spec : {M : Type 1} → statement M
+roll-listed-spec =
+    tie.close
+    (tie.spec
+    Inv-loop
+    μ-loop
+    (λ c. (search needs, listed-first _ _ _ _ _ _))
+    (λ c. search needs)
+    (λ c. let l = c .before .before in let o = l .before .before .before .pre .listed .room in search needs)
+    (λ c κs. search needs)
+    (λ c. search needs)
+    (λ c. search needs)
+    loop-again
+    (λ c. search needs)
+    returns)
