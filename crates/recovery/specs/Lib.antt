@@ -24,6 +24,7 @@ pub mod Rehearsed
 pub mod SurvivorsCode
 pub mod SidesCode
 pub mod Rows
+pub mod Tallies
 pub mod RollingCode
 pub mod NumberingCode
 pub mod Followed

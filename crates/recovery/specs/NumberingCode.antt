@@ -11,12 +11,12 @@ use lib.Dec.{eqb}
 use lib.ListN.{length}
 use borrow.Author.Tests.{eq-eqb, ne-eqb}
 use Rattle.counting.specs.Tests.{by-cases}
-use Rattle.counting.specs.Counting.{one, Counted, count-none, count-next, count-le, count-ext}
+use Rattle.counting.specs.Counting.{one, Counted, sum, count-none, count-next, count-le, count-ext}
 use Rattle.table.specs.declared.geometry.Geometry.{Geometry}
 use Rattle.table.specs.Geometry.{wordsOf}
 use Rattle.table.specs.Words.{invalid, sharedCK1, sharedCK2, currentOf}
 use Rattle.table.specs.Changes.{checkpointOf}
-use Rattle.table.specs.Stores.{Store, Change, Stored, entryStore, runs, runs-ext, runs-add, stored-then, stored-as, loop-starts, loop-turns}
+use Rattle.table.specs.Stores.{Store, Change, Stored, entryStore, runs, runs-ext, runs-add, stored-then, stored-as, stored-none, loop-starts, loop-turns}
 use Rattle.table.specs.View.{Entry, View, view, live, current}
 use Rattle.table.specs.Pass.{pass, grid-once}
 use Rattle.table.specs.PassLeaves.{pass-marks, pass-entry}
@@ -27,7 +27,8 @@ use Rattle.recovery.specs.Survivors.{survivors}
 use Rattle.recovery.specs.Rolling.{sharedCK, settled}
 use Rattle.recovery.specs.Numbering.{holders, numberAfter, numberAt, numberChange, numberStores}
 use Rattle.recovery.specs.SurvivorsCode.{survivor-entry}
-use Rattle.recovery.specs.RollingCode.{survivor-marks}
+use Rattle.recovery.specs.RollingCode.{survivor-marks, runs-empty}
+use Rattle.recovery.specs.Tallies.{plain, weightIn, plain-nothing}
 
 -- ---- the copy of one node
 
@@ -217,6 +218,18 @@ module _ (g : Geometry) (lost : Lost) (b n : ℕ) (hn : n < g .nodes) (hb : b < 
       ∙ ap (numberBy c lower all) (sym turn-entry) in
       loop-turns _ n s (stored-as (ap (map (entryStore n b)) same) r)
 
+-- what an item's turn needs: by its tally there may be nothing to do
+pub record Numberable (g : Geometry) (lost : Lost) (t : List ℕ) (b tally : ℕ) : Type 0 where
+  pub there : b < g .items
+  pub long : wordsOf g ≤ length t
+  pub nothing : plain tally ≡ true → (n : ℕ) → n < g .nodes → numberChange g (survivors lost (view g t)) n b ≡ []
+
+pub number-nothing :
+    (g : Geometry) (lost : Lost) {left b tally : ℕ} {t : List ℕ} → Numberable g lost t b tally → plain tally ≡ true
+    → Stored g left (pass (λ d. d) (λ d. b) (λ d. numberChange g (survivors lost (view g t)) d b) (g .nodes)) t t left
+number-nothing g lost {left} {b} {tally} {t} h p =
+    stored-as (runs-empty (g .nodes) _ (λ n l. ap (map (entryStore n b)) (h .nothing p n l))) (stored-none g left t)
+
 -- ---- all items: an item's row is found as it was at the start
 
 -- the changes of an item look at the marks and at the item's row alone
@@ -267,6 +280,15 @@ module _ (g : Geometry) (lost : Lost) (b : ℕ) (hb : b < g .items) {left left�
       ∙ pass-entry g (λ k. k % N) (λ k. k / N) (b * N) within (λ d e _ _ p q. grid-once N d e q p) (λ k. numberChange g w (k % N) (k / N)) long s k b
       (λ d l _ q. absurd (omega (arith, row-within N b d l .1)))
       ∙ ap (λ f. f k b) (sym (survivor-entry lost (view g t)))) g n
+
+  -- an item's turn, by its tally at the start
+  pub numbers-ready :
+      {tally : ℕ} → g .nodes < 256 → tally ≡ sum (weightIn (survivors lost (view g t)) b) (g .nodes) → Numberable g lost t₁ b tally
+  numbers-ready small e = record {
+    there = hb;
+    long = omega (arith, s .size);
+    nothing = λ p n l. row-found n ∙ plain-nothing g (survivors lost (view g t)) n b small l e p;
+  }
 
   pub numbers-turn :
       {left₂ : ℕ} {t₂ : List ℕ}

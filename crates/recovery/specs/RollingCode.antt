@@ -160,7 +160,7 @@ module _ (g : Geometry) (n : ℕ) (forward : Bool) {left left₁ : ℕ} {t t₁ 
     listed-all h q =
         listed-end (λ i. Stored g left (rolledTo g n forward (view g t) i) t t₁ left₁) (stateIn (view g t) n) passed-blank (o .listed) k h q s
 
-runs-empty : (n : ℕ) (f : ℕ → List Store) → ((i : ℕ) → i < n → f i ≡ []) → runs f n ≡ []
+pub runs-empty : (n : ℕ) (f : ℕ → List Store) → ((i : ℕ) → i < n → f i ≡ []) → runs f n ≡ []
 unfolding runs
 runs-empty zero f h = refl
 runs-empty (suc n) f h = rw (runs-empty n f (λ i l. h i (omega arith)), h n (omega arith)) refl

@@ -156,6 +156,56 @@ module _ (P : ℕ → Type 0) (f : ℕ → ℕ) (zeros : (j : ℕ) → f j ≡ 0
     pub listed-end : (k : ℕ) → k ≤ r → r ≤ k → P (reached l k) → P m
     listed-end k h q p = let e : k ≡ r = omega arith in skip-to (reached l r) m (o .all) (o .rest) (rw e at p)
 
+-- ---- a word for each item, changed along a row: the words of the items before i are as h makes them
+
+pub record Rowed (h : ℕ → ℕ → ℕ) (i : ℕ) (s s′ : List ℕ) : Type 0 where
+  pub made : (j : ℕ) → j < i → getD s′ j 0 ≡ h j (getD s j 0)
+  pub kept : (j : ℕ) → i ≤ j → getD s′ j 0 ≡ getD s j 0
+  pub size : length s′ ≡ length s
+
+pub rowed-none : (h : ℕ → ℕ → ℕ) (s : List ℕ) → Rowed h 0 s s
+rowed-none h s = record { made = λ j l. absurd (omega arith); kept = λ j l. refl; size = refl }
+
+module _ (h : ℕ → ℕ → ℕ) (i : ℕ) {s s′ : List ℕ} (r : Rowed h i s s′) where
+  pub rowed-blank : h i (getD s i 0) ≡ getD s i 0 → Rowed h (i + 1) s s′
+  rowed-blank e = record {
+    made = λ j l. elim (ℕ-discrete j i) [ yes q ↦ rw q (r .kept i (omega arith) ∙ sym e) | no q ↦ r .made j (omega arith) ];
+    kept = λ j l. r .kept j (omega arith);
+    size = r .size;
+  }
+
+  pub rowed-set : i < length s → {y : ℕ} → y ≡ h i (getD s′ i 0) → Rowed h (i + 1) s (set s′ i y)
+  rowed-set room {y} e = record {
+    made = λ j l. elim (ℕ-discrete j i) [
+      | yes q ↦ rw q (getD-set-same s′ i y 0 (omega (arith, r .size)) ∙ e ∙ ap (h i) (r .kept i (omega arith)))
+      | no q ↦ getD-set-other s′ i j y 0 q ∙ r .made j (omega arith)
+    ];
+    kept = λ j l. getD-set-other s′ i j y 0 (λ (q : j ≡ i). omega arith) ∙ r .kept j (omega arith);
+    size = length-set s′ i y ∙ r .size;
+  }
+
+-- along a list
+module _ (f : ℕ → ℕ) (h : ℕ → ℕ → ℕ) (blank : (j x : ℕ) → f j ≡ 0 → h j x ≡ x) {m : ℕ} {l : List ℕ} {count : ℕ} (o : Listed f m l count) {s s′ : List ℕ} (k : ℕ)
+    (r : Rowed h (reached l k) s s′) where
+  -- before the turn
+  pub rowed-here : k < count → Rowed h (getD l k 0) s s′
+  rowed-here q = listed-turn (λ i. Rowed h i s s′) f (λ j e p. rowed-blank h j p (blank j (getD s j 0) e)) o k q r
+
+  pub rowed-same : k < count → getD s′ (getD l k 0) 0 ≡ getD s (getD l k 0) 0
+  rowed-same q = rowed-here q .kept (getD l k 0) (omega arith)
+
+  pub rowed-room : k < count → m ≤ length s → getD l k 0 < length s′
+  rowed-room q room = omega (arith, o .below k q, r .size)
+
+  pub rowed-turn : k < count → m ≤ length s → {y : ℕ} → y ≡ h (getD l k 0) (getD s′ (getD l k 0) 0) → Rowed h (reached l (k + 1)) s (set s′ (getD l k 0) y)
+  rowed-turn q room e = rw (reached-next l k) (rowed-set h (getD l k 0) (rowed-here q) (omega (arith, o .below k q)) e)
+
+  pub rowed-end : k ≤ count → count ≤ k → Rowed h m s s′
+  rowed-end p q = listed-end (λ i. Rowed h i s s′) f (λ j e p. rowed-blank h j p (blank j (getD s j 0) e)) o k p q r
+
+pub rowed-start : (h : ℕ → ℕ → ℕ) (l s : List ℕ) → Rowed h (reached l 0) s s
+rowed-start h l s = rw (reached-start l) (rowed-none h s)
+
 -- ---- the row of a node
 
 pub listed-ext : {f h : ℕ → ℕ} {m : ℕ} {l l′ : List ℕ} {r : ℕ} → ((j : ℕ) → j < m → f j ≡ h j) → Listing f m l l′ r → Listing h m l l′ r
