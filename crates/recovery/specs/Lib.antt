@@ -23,6 +23,7 @@ pub mod Rehearsed
 -- ---- the ways of the code
 pub mod SurvivorsCode
 pub mod SidesCode
+pub mod Notes
 pub mod Rows
 pub mod Tallies
 pub mod RollingCode

@@ -90,6 +90,9 @@ module _ (g : Geometry) (w : View) (lost : Lost) (scratch : ℕ) {outside : Bool
 
 -- ---- the plan
 
+pub recover-sized : (t : List ℕ) {c : Checked} {g : Geometry} → c ≡ sizesOf t → c ≡ Passed g → (wordsOf g ≤ length t) × (g .items ≤ 256)
+recover-sized t {c} {g} e h = let f = sizes-facts t g (sym e ∙ h) in (f .long, f .sizes .items-high)
+
 module _ (t : List ℕ) (lost : Lost) (scratch : ℕ) {c : Checked} (e : c ≡ sizesOf t) where
   pub recover-failed : {x : Refusal} → c ≡ Failed x → recoverOf t lost scratch ≡ refuse x
   unfolding recoverOf recoverChecked

@@ -68,28 +68,14 @@ copiesTo forward w b n = valuesOf n (hasCopy forward w b) (λ k. copyValue (copy
 abbrev pub metAt : Bool → View → ℕ → ℕ → Values → Values
 metAt forward w b n s = cond (hasCopy forward w b n) (metOf s (copyValue (copyOn forward (w .entry n b)))) s
 
-module _ (forward : Bool) (lost : Lost) (v : View) (b n : ℕ) (s : Values) {mark : ℕ} (h : mark ≡ survivors lost v .mark n) where
-  pub met-dead : mark ≡ 0 → s ≡ metAt forward (survivors lost v) b n s
-  met-dead e = rw (← h, eq-eqb mark 0 e) refl
-
-  pub met-live :
-      {c : RecoveryCopy} {r : Values} → (mark ≡ 0 → ⊥) → Copied (copyOn forward (v .entry n b)) c
-      → r ≡ cond (not (eqb (c .number) 0)) (metOf s (c .value)) s → r ≡ metAt forward (survivors lost v) b n s
-  met-live e c q = rw (← h, ne-eqb mark 0 e, survivor-entry lost v, ← c .number, ← c .value) q
-
 module _ (forward : Bool) (w : View) (b : ℕ) where
   pub copies-start : noValues ≡ copiesTo forward w b 0
   unfolding copiesTo
   copies-start = values-none _ _
 
-  pub copies-turn : (n : ℕ) {s r : Values} → s ≡ copiesTo forward w b n → r ≡ metAt forward w b n s → r ≡ copiesTo forward w b (n + 1)
+  pub copies-next : (n : ℕ) → copiesTo forward w b (n + 1) ≡ metAt forward w b n (copiesTo forward w b n)
   unfolding copiesTo
-  copies-turn n h e = e ∙ rw (h, values-next) refl
-
-  pub fits-end :
-      (g : Geometry) (n : ℕ) {s : Values} → n ≤ g .nodes → g .nodes ≤ n → s ≡ copiesTo forward w b n → (s .seen && s .equal) ≡ itemFits g forward w b
-  unfolding copiesTo itemFits copiesOn
-  fits-end g n l m h = let e : n ≡ g .nodes = omega arith in rw (h, e) refl
+  copies-next n = values-next _ _ _
 
 -- on the side that the survivors choose
 pub fits-chosen :

@@ -33,6 +33,7 @@ fn scratch_words(g: Geometry) -> usize
 
 // 4 no such node; 16 scratch too short; 2 a survivor's word forms or frames; 14 too few survivors; 15 no recovery copy, or two that differ.
 fn admit_recover(table: &[u64], g: Geometry, lost: Lost, room: usize) -> Admission
+    requires { ⌜ (wordsOf g ≤ length (now table)) × (g .items ≤ 256) ⌝ }
     ensures { λ r. ⌜ r ≡ recoverAdmission g (survivors lost (view g (now (table .entry)))) lost room ⌝ }
 {
     let outside = survivors::lost_outside(g, lost);

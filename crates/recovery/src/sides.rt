@@ -1,14 +1,20 @@
 // The side that a recovery takes, and the recovery copies on a side.
 ghost use mathlib.Core.Path.{_≡_};
+ghost use mathlib.Core.Bool.{not};
+ghost use Prim.Native.Nat.{_≤_};
+ghost use lib.Dec.{eqb};
+ghost use lib.ListN.{length, getD};
 ghost use Rattle.counting.specs.Counting.{every};
+ghost use Rattle.table.specs.Geometry.{wordsOf};
 ghost use Rattle.table.specs.View.{view};
 ghost use Rattle.table.specs.Copies.{backBy};
 ghost use Rattle.recovery.specs.Survivors.{survivors};
 ghost use Rattle.recovery.specs.Sides.{commits, forwardIn, copyOn, itemFits};
-ghost use Rattle.recovery.specs.SidesCode.{Copied, metAt};
+ghost use Rattle.recovery.specs.SidesCode.{Copied};
+ghost use Rattle.recovery.specs.Notes.{firstMet, seenMet, Notable, NotedTo, NoteReady, NoteDone};
 use crate::lost::Lost;
+use crate::rows;
 use crate::survivors;
-use counting::values::Values;
 use table::changes;
 use table::changes::Event;
 use table::geometry::Geometry;
@@ -82,51 +88,115 @@ fn copy_on(table: &[u64], g: Geometry, forward: bool, node: u8, item: u16) -> Re
     copy_by(number, kept, value, kept_value)
 }
 
-// The recovery copies of an item with that of one node more; of a node that does not survive no entry is read.
-fn copy_met(
+// The first value of an item's recovery copies, with a copy more if there is one.
+fn first_met(has: bool, seen: u64, first: u64, value: u64) -> u64
+    ensures { λ r. ⌜ r ≡ firstMet has seen first «value» ⌝ }
+{
+    if !has {
+        return first;
+    }
+    if seen == 0 {
+        return value;
+    }
+    first
+}
+
+// 1 once an item has a recovery copy.
+fn seen_met(has: bool, seen: u64) -> u64
+    ensures { λ r. ⌜ r ≡ seenMet has seen ⌝ }
+{
+    if has {
+        return 1;
+    }
+    seen
+}
+
+// The recovery copies of a node, noted with their items: the first value, and that one was seen. Whether each equals the first of its item.
+fn note_listed(
+    table: &[u64],
+    g: Geometry,
+    forward: bool,
+    node: u8,
+    list: &[u16],
+    count: usize,
+    firsts: &mut [u64],
+    seens: &mut [u64],
+) -> bool
+    requires { ⌜ Notable g (view g (now table)) node (now list) count (now firsts) (now seens) ⌝ }
+    ensures { λ r. ⌜ NotedTo forward (view g (now (table .entry))) node (now (firsts .entry)) (now (seens .entry)) (g .items) (now (firsts .exit)) (now (seens .exit)) r ⌝ }
+{
+    let mut agree = true;
+    let mut k: usize = 0;
+    while k < count {
+        let item = list[k];
+        let at = item as usize;
+        let copy = copy_on(table, g, forward, node, item);
+        let number = copy.number;
+        let value = copy.value;
+        let has = number != 0;
+        let first = firsts[at];
+        let seen = seens[at];
+        firsts[at] = first_met(has, seen, first, value);
+        seens[at] = seen_met(has, seen);
+        agree = agree & (!has | ((seen == 0) | (value == first)));
+        k += 1;
+    }
+    agree
+}
+
+// The turn of one node: of a node that does not survive no entry is read.
+fn note_node(
     table: &[u64],
     g: Geometry,
     lost: Lost,
     forward: bool,
-    item: u16,
     node: u8,
-    copies: Values,
-) -> Values
-    ensures { λ r. ⌜ r ≡ metAt forward (survivors lost (view g (now (table .entry)))) item node copies ⌝ }
+    list: &mut [u16],
+    firsts: &mut [u64],
+    seens: &mut [u64],
+) -> bool
+    requires { ⌜ NoteReady g forward (survivors lost (view g (now table))) node (now table) (now list) (now firsts) (now seens) ⌝ }
+    ensures { λ r. ⌜ NoteDone g forward (survivors lost (view g (now (table .entry)))) node (now (list .entry)) (now (list .exit)) (now (firsts .exit)) (now (seens .exit)) r ⌝ }
 {
     let mark = survivors::survivor_mark(table, g, lost, node);
     if mark == 0 {
-        return copies;
+        return true;
     }
-    let copy = copy_on(table, g, forward, node, item);
-    copies.met(copy.number != 0, copy.value)
+    let count = rows::occupied(table, g, node, list);
+    note_listed(table, g, forward, node, list, count, firsts, seens)
 }
 
-// Whether the survivors have a recovery copy of an item on a side, and no two that differ.
-fn item_fits(table: &[u64], g: Geometry, lost: Lost, forward: bool, item: u16) -> bool
-    ensures { λ r. ⌜ r ≡ itemFits g forward (survivors lost (view g (now (table .entry)))) item ⌝ }
+// Whether each item has been seen.
+fn all_seen(items: u16, seens: &[u64]) -> bool
+    ensures { λ r. ⌜ r ≡ every (λ j. not (eqb (getD (now (seens .entry)) j 0) 0)) items ⌝ }
 {
-    let nodes = g.nodes;
-    let mut copies = Values::none();
-    let mut node: u8 = 0;
-    while node < nodes {
-        copies = copy_met(table, g, lost, forward, item, node, copies);
-        node += 1;
-    }
-    copies.seen & copies.equal
-}
-
-// Whether each item has a recovery copy on a side, and no two that differ; if not, 15.
-pub fn items_fit(table: &[u64], g: Geometry, lost: Lost, forward: bool) -> bool
-    ensures { λ r. ⌜ r ≡ every (itemFits g forward (survivors lost (view g (now (table .entry))))) (g .items) ⌝ }
-{
-    let items = g.items;
     let mut ok = true;
     let mut item: u16 = 0;
     while item < items {
-        let fit = item_fits(table, g, lost, forward, item);
-        ok = ok & fit;
+        let seen = stores::word(seens, item as usize);
+        ok = ok & (seen != 0);
         item += 1;
     }
     ok
+}
+
+// Whether each item has a recovery copy on a side, and no two that differ; if not, 15.
+pub(crate) fn items_fit(table: &[u64], g: Geometry, lost: Lost, forward: bool) -> bool
+    requires { ⌜ (wordsOf g ≤ length (now table)) × (g .items ≤ 256) ⌝ }
+    ensures { λ r. ⌜ r ≡ every (itemFits g forward (survivors lost (view g (now (table .entry))))) (g .items) ⌝ }
+{
+    let nodes = g.nodes;
+    let items = g.items;
+    let mut list: [u16; 256] = [0; 256];
+    let mut firsts: [u64; 256] = [0; 256];
+    let mut seens: [u64; 256] = [0; 256];
+    let mut equal = true;
+    let mut node: u8 = 0;
+    while node < nodes {
+        let agree = note_node(table, g, lost, forward, node, &mut list, &mut firsts, &mut seens);
+        equal = equal & agree;
+        node += 1;
+    }
+    let seen = all_seen(items, &seens);
+    seen & equal
 }

@@ -1,9 +1,15 @@
 -- `recover` meets its contract: a plan for each way out. Assumes nothing.
 use mathlib.Core.Path.{refl}
-use Rattle.recovery.specs.RecoverCode.{recover-failed, recover-turned, recover-admitted, recover-carriable, recover-refused, recover-done}
+use Rattle.recovery.specs.RecoverCode.{recover-failed, recover-sized, recover-turned, recover-admitted, recover-carriable, recover-refused, recover-done}
 use borrow.Author.Needs.{needs}
 use Rattle.recovery.proofs.recover.recover.Statement.{statement}
 use Rattle.recovery.proofs.recover.recover.Tie as tie
+
+admit-recover-requires : tie.Need-admit-recover-requires
+admit-recover-requires c κs =
+    let s = c .before .before in
+    let z = s .before .before in
+    recover-sized (z .before .before .before .before .args .table .now) (z .sizes .ensures) (s .sized2 .given .1)
 
 recover-stores-requires : tie.Need-recover-stores-requires
 recover-stores-requires c κs =
@@ -36,7 +42,7 @@ recover-spec =
     (λ c κs. search needs)
     (λ c. search needs)
     (λ c. search needs)
-    (λ c κs. search needs)
+    admit-recover-requires
     (λ c. search needs)
     (λ c. search needs)
     recover-stores-requires
