@@ -1,5 +1,6 @@
 -- The state table: what the current place of a copy becomes, by event.
 use Prim.Native.Nat.{ℕ, _%_}
+use mathlib.Core.Path.{_≡_, sym, ap, _∙_}
 use mathlib.Core.Bool.{cond}
 use mathlib.Core.List.{List, [], _∷_}
 use lib.Dec.{eqb}
@@ -39,6 +40,13 @@ columnOf RollForward = 5
 -- a row per state code, a column per event
 unfoldable pub changeOf : ℕ → Event → ℕ
 changeOf state event = getD (getD changes (state % 8) []) (columnOf event) 0
+
+-- a row of it
+pub change-row :
+    (state k : ℕ) (event : Event) {row : List ℕ} {r : ℕ} → state % 8 ≡ k → getD changes k [] ≡ row → r ≡ getD row (columnOf event) 0
+    → r ≡ changeOf state event
+unfolding changeOf
+change-row state k event h e q = q ∙ ap (λ l. getD l (columnOf event) 0) (sym e ∙ ap (λ i. getD changes i []) (sym h))
 
 -- the number of a Shared-CK copy, or 0
 abbrev pub checkpointOf : ℕ → ℕ
