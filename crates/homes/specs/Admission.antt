@@ -87,8 +87,11 @@ module _ (g : Geometry) (v : View) (n b : ℕ) {a : Admission} (h : a ≡ admiss
     unfolding frameAdmission
     frame-free q = rw (← h, e, ← f, q) refl
 
-pub frame-asked :
-    (g : Geometry) (v : View) (n b : ℕ) (needed : Bool) {set u f : ℕ} → set ≡ setOf g b → u ≡ used g v n set → f ≡ setFrames g
-    → (needed && leb f u) ≡ frameFull g v n b needed
-unfolding frameFull
-frame-asked g v n b needed p q r = ap₂ (λ f u. needed && leb f u) r (q ∙ ap (used g v n) p)
+module _ (g : Geometry) (v : View) (n b : ℕ) {needed : Bool} where
+  pub frame-spared : needed ≡ false → false ≡ frameFull g v n b needed
+  unfolding frameFull
+  frame-spared h = rw h refl
+
+  pub frame-asked : needed ≡ true → {set u f : ℕ} → set ≡ setOf g b → u ≡ used g v n set → f ≡ setFrames g → leb f u ≡ frameFull g v n b needed
+  unfolding frameFull
+  frame-asked h p q r = rw h (ap₂ (λ f u. leb f u) r (q ∙ ap (used g v n) p))

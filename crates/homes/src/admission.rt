@@ -37,8 +37,11 @@ pub fn admit(table: &[u64], g: Geometry, node: u64, item: u64) -> Admission
 pub fn frame_full(table: &[u64], g: Geometry, node: u8, item: u16, needed: bool) -> bool
     ensures { λ r. ⌜ r ≡ frameFull g (view g (now (table .entry))) node item needed ⌝ }
 {
+    if !needed {
+        return false;
+    }
     let set = entries::frames::set_of(g, item);
     let used = entries::frames::used_in(table, g, node, set);
     let frames = entries::frames::set_frames(g);
-    needed & (frames <= used)
+    frames <= used
 }

@@ -1,5 +1,6 @@
 -- `frame_full` meets its contract: needed, and no frame of the set free. Assumes nothing.
-use Rattle.homes.specs.Admission.{frame-asked}
+use Rattle.homes.specs.Admission.{frame-spared, frame-asked}
+use borrow.Author.Tests.{not-true, not-false}
 use borrow.Author.Needs.{needs}
 use Rattle.homes.proofs.admission.frame_full.Statement.{statement}
 use Rattle.homes.proofs.admission.frame_full.Tie as tie
@@ -8,7 +9,8 @@ pub frame-full-spec : {M : Type 1} → statement M
 frame-full-spec =
     tie.close
     (tie.spec
+    (λ c. frame-spared _ _ _ _ (not-true _ (c .if1 .taken)))
     (λ c κs. search needs)
     (λ c κs. search needs)
     (λ c κs. search needs)
-    (λ c. let u = c .before in frame-asked _ _ _ _ _ (u .before .set-of .ensures) (u .used-in .ensures) (c .set-frames .ensures)))
+    (λ c. let u = c .before in let s = u .before in frame-asked _ _ _ _ (not-false _ (s .before .if1 .left)) (s .set-of .ensures) (u .used-in .ensures) (c .set-frames .ensures)))
