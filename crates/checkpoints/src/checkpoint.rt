@@ -9,7 +9,7 @@ ghost use Rattle.table.specs.View.{view};
 ghost use Rattle.table.specs.MarksPass.{markTo};
 ghost use Rattle.table.specs.Pass.{pass};
 ghost use Rattle.checkpoints.specs.Checkpoint.{commonMark, openAdmission, owns, ownsAt, ownerOf, dirtyItem, rowOwns, Row, Lies, liveChanges, entriesTo};
-ghost use Rattle.checkpoints.specs.Closing.{closeChange};
+ghost use Rattle.checkpoints.specs.Closing.{commitChange, abandonChange, closeChange};
 ghost use Rattle.checkpoints.specs.ClosingCode.{MarksStored};
 use homes::admission::Admission;
 use table::answers::Refusal;
@@ -150,8 +150,42 @@ pub fn marks_to(table: &mut [u64], left: u64, g: Geometry, word: u64) -> u64
     left
 }
 
-// An entry as the checkpoint ends: one state store where it changes. `at` is the place of its state word.
-fn close_change(
+// A commit in an entry, of which this is the state word: one state store where Precommit or Inv-CK stands. Turned by four bits, the word of an
+// entry with no copy kept and no Precommit is its code, under 6.
+fn commit_entry(table: &mut [u64], left: u64, g: Geometry, node: u8, item: u16, state: u64) -> u64
+    requires { ⌜ state ≡ view g (now table) .entry node item .state ⌝ }
+    ensures { λ r. ⌜ StoredIn g left node item (commitChange (view g (now (table .entry)) .entry node item)) (now (table .entry)) (now (table .exit)) r ⌝ }
+{
+    let turned = state % 0x1000_0000_0000_0000 * 16 + state / 0x1000_0000_0000_0000;
+    if turned < 6 {
+        return left;
+    }
+    let current = words::current_of(state);
+    let kept = words::kept_of(state);
+    let precommit = (current == words::PRECOMMIT1) | (current == words::PRECOMMIT2);
+    if precommit | !(kept == words::INVALID) {
+        let next = table::changes::change(current, Event::Commit);
+        return stores::store_state(table, left, g, node, item, next, words::INVALID);
+    }
+    left
+}
+
+// An abandon in an entry, of which this is the state word: one state store where Precommit stands.
+fn abandon_entry(table: &mut [u64], left: u64, g: Geometry, node: u8, item: u16, state: u64) -> u64
+    requires { ⌜ state ≡ view g (now table) .entry node item .state ⌝ }
+    ensures { λ r. ⌜ StoredIn g left node item (abandonChange (view g (now (table .entry)) .entry node item)) (now (table .entry)) (now (table .exit)) r ⌝ }
+{
+    let current = words::current_of(state);
+    if (current == words::PRECOMMIT1) | (current == words::PRECOMMIT2) {
+        let kept = words::kept_of(state);
+        let next = table::changes::change(current, Event::Abandon);
+        return stores::store_state(table, left, g, node, item, next, kept);
+    }
+    left
+}
+
+// An entry as the checkpoint ends. `at` is the place of its state word.
+fn close_entry(
     table: &mut [u64],
     left: u64,
     g: Geometry,
@@ -164,24 +198,9 @@ fn close_change(
     ensures { λ r. ⌜ StoredIn g left node item (closeChange way (view g (now (table .entry)) .entry node item)) (now (table .entry)) (now (table .exit)) r ⌝ }
 {
     let state = table[at];
-    let current = words::current_of(state);
-    let kept = words::kept_of(state);
-    let precommit = (current == words::PRECOMMIT1) | (current == words::PRECOMMIT2);
     match way {
-        Closing::Committed => {
-            if precommit | !(kept == words::INVALID) {
-                let next = table::changes::change(current, Event::Commit);
-                return stores::store_state(table, left, g, node, item, next, words::INVALID);
-            }
-            left
-        }
-        Closing::Abandoned => {
-            if precommit {
-                let next = table::changes::change(current, Event::Abandon);
-                return stores::store_state(table, left, g, node, item, next, kept);
-            }
-            left
-        }
+        Closing::Committed => commit_entry(table, left, g, node, item, state),
+        Closing::Abandoned => abandon_entry(table, left, g, node, item, state),
     }
 }
 
@@ -195,7 +214,7 @@ fn close_live(table: &mut [u64], left: u64, g: Geometry, node: u8, way: Closing)
     let mut at = g.entry_at(node, 0);
     let mut item: u16 = 0;
     while item < items {
-        left = close_change(table, left, g, node, item, at, way);
+        left = close_entry(table, left, g, node, item, at, way);
         at += Geometry::ENTRY_WORDS;
         item += 1;
     }

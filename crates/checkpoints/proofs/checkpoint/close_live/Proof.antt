@@ -19,8 +19,8 @@ Inv-loop table₀ left g node way items left₀ at₀ item₀ table left' at ite
 abbrev μ-loop : tie.MeasureT-loop
 μ-loop table₀ left g node way items left₀ at₀ item₀ table left' at item = g .items - item
 
-close-change-requires : tie.Need-close-change-requires Inv-loop μ-loop
-close-change-requires c κs =
+close-entry-requires : tie.Need-close-entry-requires Inv-loop μ-loop
+close-entry-requires c κs =
     let l = c .before .before in
     let p = l .before .before .before .pre in
     record { node = p .0; item = c .before .loop-test .taken; place = l .loop .inv .1 .0; long = omega (arith, p .1, l .loop .inv .1 .1 .size) }
@@ -37,7 +37,7 @@ loop-again c =
     let s = c .before .before in
     let l = s .before .before .before in
     let p = l .before .before .before .pre in
-    (search needs, (omega arith, live-turn (closeChange _) _ _ _ (p .1) (p .0) (s .before .before .loop-test .taken) (l .loop .inv .1 .1) (s .close-change .ensures)))
+    (search needs, (omega arith, live-turn (closeChange _) _ _ _ (p .1) (p .0) (s .before .before .loop-test .taken) (l .loop .inv .1 .1) (s .close-entry .ensures)))
 
 pub close-live-spec : {M : Type 1} → statement M
 close-live-spec =
@@ -47,7 +47,7 @@ close-live-spec =
     μ-loop
     (λ c κs. search needs)
     (λ c. (search needs, (c .entry-at .ensures .at, loop-starts _ _ _ _)))
-    close-change-requires
+    close-entry-requires
     add-at
     (λ c. search needs)
     (λ c. search needs)
