@@ -1,6 +1,6 @@
 -- The entries of a row that hold something: as they are gathered, and the next one after an item.
 use Prim.Native.Nat.{ℕ, zero, suc, _+_, _*_, _^_, _<_, _≤_}
-use mathlib.Core.Path.{_≡_, refl, ap, _∙_}
+use mathlib.Core.Path.{_≡_, refl, ap, subst, _∙_}
 use mathlib.Core.Bool.{Bool, true, false, not}
 use mathlib.Core.List.{List}
 use native.Mathlib.Omega.{arith}
@@ -12,6 +12,7 @@ use lib.Seq.{getD-set-same, getD-set-other}
 use borrow.Author.Tests.{eq-eqb, ne-eqb, ltb-true, ltb-false}
 use Rattle.counting.specs.Tests.{by-cases}
 use Rattle.counting.specs.Counting.{count, count-none, count-next, below, one, Counted}
+use Rattle.entries.specs.NodePass.{rowState, row-read}
 use Rattle.entries.specs.SurveyRow.{occupies, Gathered}
 
 -- one more
@@ -64,8 +65,38 @@ module _ {s : ℕ → ℕ} {b r : ℕ} {list₀ list : List ℕ} (q : Gathering 
         here : (s b ≡ 0 → ⊥) → getD (set list r x) (count (occupies s) b) 0 ≡ 3 * b
         here d = rw (← q .row .counted) (getD-set-same list r x 0 (omega (arith, q .few, q .size)) ∙ a)
 
+  pub gathering-at : {m : ℕ} → b ≡ m → Gathering s m list₀ list r
+  gathering-at e = subst (λ k. Gathering s k list₀ list r) e q
+
+  pub gathering-on : Gathering s b list list r
+  gathering-on = record { row = q .row; few = q .few; size = refl }
+
   pub gathering-ends : {m : ℕ} → b ≤ m → m ≤ b → Gathered s m list r
   gathering-ends {m} h k = let e : b ≡ m = omega arith in rw e at q .row
+
+-- entries are gathered on from an offset, n of them
+pub record GatheredMore (s : ℕ → ℕ) (offset n : ℕ) (list list′ : List ℕ) (count r : ℕ) : Type 0 where
+  pub gathers : {b : ℕ} {list₀ : List ℕ} → offset ≡ 3 * b → b + n ≤ length list₀ → Gathering s b list₀ list count → Gathering s (b + n) list₀ list′ r
+  pub few : r ≤ count + n
+  pub size : length list′ ≡ length list
+
+pub gathered-one :
+    (t : List ℕ) (start offset : ℕ) {list : List ℕ} {count w d : ℕ} → w ≡ getD t (start + offset) 0 → Counted (not (eqb w 0)) d
+    → GatheredMore (rowState t start) offset 1 list (set list count offset) count (count + d)
+gathered-one t start offset {list} {count} e n = record {
+  gathers = λ {b} a l q. gathering-next q (omega arith) (row-read t start b (omega arith) e) n a;
+  few = omega (arith, n .small);
+  size = length-set list count offset;
+}
+
+pub gathered-then :
+    {s : ℕ → ℕ} {offset offset′ n m : ℕ} {list list′ list″ : List ℕ} {count r r′ : ℕ} → GatheredMore s offset n list list′ count r → offset′ ≡ offset + 3 * n
+    → GatheredMore s offset′ m list′ list″ r r′ → GatheredMore s offset (n + m) list list″ count r′
+gathered-then p e q = record {
+  gathers = λ a l g. gathering-at (q .gathers (omega arith) (omega arith) (p .gathers a (omega arith) g)) (omega arith);
+  few = omega (arith, p .few, q .few);
+  size = q .size ∙ p .size;
+}
 
 -- ---- the next one
 

@@ -2,7 +2,7 @@
 // weight to its item's tally, and its values are compared with the first that the item had.
 ghost use mathlib.Core.Path.{_≡_};
 ghost use mathlib.Core.Bool.{_&&_};
-ghost use Prim.Native.Nat.{_+_, _*_, _%_, _^_, _<_, _≤_};
+ghost use Prim.Native.Nat.{_+_, _*_, _/_, _%_, _^_, _<_, _≤_};
 ghost use lib.ListN.{length, getD};
 ghost use Rattle.counting.specs.Counting.{every};
 ghost use Rattle.table.specs.View.{view};
@@ -10,6 +10,7 @@ ghost use Rattle.entries.specs.Sound.{nodesSound, itemsSound};
 ghost use Rattle.entries.specs.NodePass.{rowState};
 ghost use Rattle.entries.specs.Survey.{topOf, weightOf, kindTest};
 ghost use Rattle.entries.specs.SurveyRow.{Gathered, EntryNoted, RowReady, RowNoted};
+ghost use Rattle.entries.specs.SurveyGather.{Gathering, GatheredMore};
 ghost use Rattle.entries.specs.SurveySound.{fitsTest, RowFrames, Surveyable, Surveying, RowSurveyed, RowsSurveyed};
 use crate::frames;
 use table::geometry::Geometry;
@@ -50,18 +51,52 @@ fn weight(top: u8) -> u64
     }
 }
 
+// Gathers one entry more: its offset stands in the list, and counts if its state word is not 0.
+fn gather_one(table: &[u64], start: usize, offset: usize, list: &mut [u16], count: usize) -> usize
+    requires { ⌜ (start + offset < length (now table)) × ((count < length (now list)) × ((count < 256) × (offset < 768))) ⌝ }
+    ensures { λ r. ⌜ GatheredMore (rowState (now (table .entry)) start) offset 1 (now (list .entry)) (now (list .exit)) count r ⌝ }
+{
+    let state = table[start + offset];
+    list[count] = offset as u16;
+    count + (state != 0) as usize
+}
+
+// Gathers four entries more.
+fn gather_four(table: &[u64], start: usize, offset: usize, list: &mut [u16], count: usize) -> usize
+    requires { ⌜ (start + offset + 9 < length (now table)) × ((count + 3 < length (now list)) × ((count + 3 < 256) × (offset + 9 < 768))) ⌝ }
+    ensures { λ r. ⌜ GatheredMore (rowState (now (table .entry)) start) offset 4 (now (list .entry)) (now (list .exit)) count r ⌝ }
+{
+    let first = gather_one(table, start, offset, list, count);
+    let second = gather_one(table, start, offset + 3, list, first);
+    let third = gather_one(table, start, offset + 6, list, second);
+    gather_one(table, start, offset + 9, list, third)
+}
+
+// Gathers the entries of a row four by four, as far as that goes.
+fn gather_fours(table: &[u64], start: usize, items: u16, list: &mut [u16]) -> usize
+    requires { ⌜ (start + 3 * items ≤ length (now table)) × ((items ≤ length (now list)) × (items ≤ 256)) ⌝ }
+    ensures { λ r. ⌜ Gathering (rowState (now (table .entry)) start) (4 * (items / 4)) (now (list .entry)) (now (list .exit)) r ⌝ }
+{
+    let most = 12 * ((items / 4) as usize);
+    let mut count: usize = 0;
+    let mut offset: usize = 0;
+    while offset < most {
+        count = gather_four(table, start, offset, list, count);
+        offset += 12;
+    }
+    count
+}
+
 // Gathers the offsets of the entries of a row whose state word is not 0; how many there are.
 fn occupied(table: &[u64], start: usize, items: u16, list: &mut [u16]) -> usize
     requires { ⌜ (start + 3 * items ≤ length (now table)) × ((items ≤ length (now list)) × (items ≤ 256)) ⌝ }
     ensures { λ r. ⌜ Gathered (rowState (now (table .entry)) start) items (now (list .exit)) r ⌝ }
 {
     let width = Geometry::ENTRY_WORDS * (items as usize);
-    let mut count: usize = 0;
-    let mut offset: usize = 0;
+    let mut count = gather_fours(table, start, items, list);
+    let mut offset = 12 * ((items / 4) as usize);
     while offset < width {
-        let state = table[start + offset];
-        list[count] = offset as u16;
-        count += (state != 0) as usize;
+        count = gather_one(table, start, offset, list, count);
         offset += Geometry::ENTRY_WORDS;
     }
     count

@@ -1,13 +1,10 @@
 -- `occupied` meets its contract: the entries before the offset are gathered. Assumes nothing.
-use Prim.Native.Nat.{ℕ, _+_, _-_, _*_, _≤_}
-use mathlib.Core.Path.{_≡_, refl}
-use mathlib.Core.Bool.{not}
+use Prim.Native.Nat.{ℕ, _+_, _-_, _*_, _/_, _≤_}
+use mathlib.Core.Path.{_≡_}
 use native.Mathlib.Omega.{arith}
-use lib.Dec.{eqb}
-use lib.ListN.{getD}
 use borrow.Author.Needs.{needs}
-use Rattle.entries.specs.NodePass.{rowState, row-read}
-use Rattle.entries.specs.SurveyGather.{Gathering, gathering-none, gathering-next, gathering-ends, bit-counted, bit-fits}
+use Rattle.entries.specs.NodePass.{rowState}
+use Rattle.entries.specs.SurveyGather.{Gathering, gathering-on, gathering-ends}
 use Rattle.entries.proofs.survey.occupied.Statement.{statement}
 use Rattle.entries.proofs.survey.occupied.Tie as tie
 
@@ -18,16 +15,16 @@ Inv-loop table start items list₀ width count₀ offset₀ list count offset =
 abbrev μ-loop : tie.MeasureT-loop
 μ-loop table start items list₀ width count₀ offset₀ list count offset = width - offset
 
-add-count : tie.Need-add-count Inv-loop μ-loop
-add-count c =
-    let a = c .before .before .before .args in
-    let l = c .before .before .loop in
-    record { fits = bit-fits (l .count) (not (eqb (getD (a .table .now) (a .start + l .offset) 0) 0)) (omega arith) }
+loop-holds : tie.Need-loop-holds Inv-loop μ-loop
+loop-holds c =
+    let s = c .before .before in
+    (4 * (s .before .before .before .before .args .items / 4), (omega arith, (omega arith, gathering-on (s .gather-fours .ensures))))
 
 loop-again : tie.Need-loop-again Inv-loop μ-loop
 loop-again c =
-    let i = c .before .before .loop .inv in
-    (i .0 + 1, (omega arith, (omega arith, gathering-next (i .1 .1 .1) (omega arith) (row-read _ _ _ (omega arith) refl) (bit-counted _) (i .1 .0))))
+    let s = c .before .before in
+    let i = s .before .before .before .loop .inv in
+    (i .0 + 1, (omega arith, (omega arith, s .gather-one .ensures .gathers (i .1 .0) (omega arith) (i .1 .1 .1))))
 
 returns : tie.Need-returns Inv-loop μ-loop
 returns c = let i = c .before .loop .inv in gathering-ends (i .1 .1 .1) (i .1 .1 .0) (omega arith)
@@ -39,15 +36,11 @@ occupied-spec =
     Inv-loop
     μ-loop
     (λ c. search needs)
-    (λ c. (0, (search needs, (search needs, gathering-none _ _))))
+    (λ c κs. search needs)
     (λ c. search needs)
     (λ c. search needs)
-    (λ c. search needs)
-    (λ c. search needs)
-    (λ c. search needs)
-    (λ c. search needs)
-    (λ c. search needs)
-    add-count
+    loop-holds
+    (λ c κs. search needs)
     (λ c. search needs)
     (λ c. search needs)
     loop-again
