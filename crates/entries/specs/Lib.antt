@@ -4,6 +4,7 @@ pub mod Tally
 pub mod Items
 pub mod Sound
 pub mod NodePass
+pub mod RowFrames
 pub mod Survey
 pub mod SurveyRow
 pub mod SurveyFields

@@ -50,7 +50,7 @@ digitOf w = getD digits (topOf w) 0
 abbrev codeForm : ℕ → Bool
 codeForm i = ltb (i / 4) 8 && (ltb (i % 4) 3 && (eqb (i % 4) 0 || (ltb (i / 4) 4 || ltb 5 (i / 4))))
 
-abbrev codeFrames : ℕ → ℕ
+abbrev pub codeFrames : ℕ → ℕ
 codeFrames i = frameOf (i / 4) + frameOf (i % 4)
 
 abbrev digitRule : ℕ → Bool
@@ -63,7 +63,7 @@ digit-parts i h = eqb-true _ _ (every-at 64 digitRule refl i h)
 pub quarter : (w : ℕ) → currentOf w ≡ topOf w / 4
 quarter w = omega arith
 
-frames-two : (w : ℕ) → framesIn w ≤ 2
+pub frames-two : (w : ℕ) → framesIn w ≤ 2
 unfolding framesIn
 frames-two w = omega (arith, frame-le (currentOf w), frame-le (keptOf w))
 

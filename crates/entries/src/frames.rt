@@ -1,7 +1,9 @@
 // The frames that a node uses, asked for a set of items; a node's frames are one set.
 ghost use mathlib.Core.Path.{_≡_};
-ghost use Prim.Native.Nat.{_≤_};
+ghost use Prim.Native.Nat.{_+_, _*_, _/_, _<_, _≤_};
+ghost use lib.ListN.{length};
 ghost use Rattle.entries.specs.Frames.{setsOf, setOf, setFrames, frameOf, framesIn, framesAt, used, framesFit};
+ghost use Rattle.entries.specs.RowFrames.{frameDigits, rowFrames};
 ghost use Rattle.table.specs.View.{view};
 use table::geometry::Geometry;
 
@@ -57,8 +59,52 @@ fn frames_at(table: &[u64], g: Geometry, node: u8, set: u8, item: u16) -> usize
     0
 }
 
-// The frames of a set that a node uses.
-pub fn used_in(table: &[u64], g: Geometry, node: u8, set: u8) -> usize
+// The frames of an entry, by a digit for each value of the six top bits of its state word, the current and the kept code.
+fn frames_by(digits: &[u8], state: u64) -> usize
+    requires { ⌜ now digits ≡ frameDigits ⌝ }
+    ensures { λ r. ⌜ (r ≡ framesIn state) × (r ≤ 2) ⌝ }
+{
+    let digit = digits[(state / 0x400_0000_0000_0000) as usize];
+    digit as usize - 48
+}
+
+// The frames of the entries of a row four by four, as far as that goes.
+fn fours_frames(table: &[u64], start: usize, items: u16) -> usize
+    requires { ⌜ (start < 1000000000) × (start + 3 * items ≤ length (now table)) ⌝ }
+    ensures { λ r. ⌜ (r ≡ rowFrames (now (table .entry)) start (4 * (items / 4))) × (r ≤ 2 * items) ⌝ }
+{
+    let digits = b"0111122212221222122212221222122212221222122212221222122212221222";
+    let end = start + 12 * ((items / 4) as usize);
+    let mut n: usize = 0;
+    let mut at = start;
+    while at < end {
+        let first = frames_by(digits, table[at]);
+        let second = frames_by(digits, table[at + 3]);
+        let third = frames_by(digits, table[at + 6]);
+        let fourth = frames_by(digits, table[at + 9]);
+        n += (first + second) + (third + fourth);
+        at += 12;
+    }
+    n
+}
+
+// The frames of the entries of a row.
+fn row_frames(table: &[u64], start: usize, items: u16) -> usize
+    requires { ⌜ (start < 1000000000) × (start + 3 * items ≤ length (now table)) ⌝ }
+    ensures { λ r. ⌜ r ≡ rowFrames (now (table .entry)) start items ⌝ }
+{
+    let end = start + Geometry::ENTRY_WORDS * (items as usize);
+    let mut n = fours_frames(table, start, items);
+    let mut at = start + 12 * ((items / 4) as usize);
+    while at < end {
+        n += frames_in(table[at]);
+        at += Geometry::ENTRY_WORDS;
+    }
+    n
+}
+
+// The frames of a set that a node uses, item by item.
+fn used_by_items(table: &[u64], g: Geometry, node: u8, set: u8) -> usize
     ensures { λ r. ⌜ r ≡ used g (view g (now (table .entry))) node set ⌝ }
 {
     let items = g.items;
@@ -69,6 +115,20 @@ pub fn used_in(table: &[u64], g: Geometry, node: u8, set: u8) -> usize
         item += 1;
     }
     n
+}
+
+// The frames of a set that a node uses: by its row, where that is in the table and the node's frames are one set.
+pub fn used_in(table: &[u64], g: Geometry, node: u8, set: u8) -> usize
+    ensures { λ r. ⌜ r ≡ used g (view g (now (table .entry))) node set ⌝ }
+{
+    let start = g.entry_at(node, 0);
+    let end = start + Geometry::ENTRY_WORDS * (g.items as usize);
+    let sets = sets(g);
+    let whole = (node < g.nodes) & ((end <= table.len()) & ((sets == 1) & (set == 0)));
+    if whole {
+        return row_frames(table, start, g.items);
+    }
+    used_by_items(table, g, node, set)
 }
 
 // Whether a node uses no more frames than it has, set by set.

@@ -1,38 +1,35 @@
--- `used_in` meets its contract: the sum so far, which is small. Assumes nothing.
-use Prim.Native.Nat.{_≤_, _-_, _*_}
-use mathlib.Core.Path.{_≡_, ap, _∙_}
-use native.Mathlib.Omega.{arith}
+-- `used_in` meets its contract: by the row, or item by item. Assumes nothing.
+use Prim.Native.Nat.{_+_, _*_}
+use lib.ListN.{length}
 use borrow.Author.Needs.{needs}
-use Rattle.counting.specs.Counting.{sum, sum-none, sum-next}
-use Rattle.entries.specs.Frames.{framesAt, used}
-use Rattle.table.specs.View.{view}
+use Rattle.entries.specs.RowFrames.{row-within, row-used}
 use Rattle.entries.proofs.frames.used_in.Statement.{statement}
 use Rattle.entries.proofs.frames.used_in.Tie as tie
 
-abbrev Inv-loop : tie.InvT-loop
-Inv-loop table g node set items n₀ item₀ n item =
-    (item ≤ g .items) × ((n ≡ sum (framesAt g (view g table) node set) item) × (n ≤ 2 * item))
+row-frames-requires : tie.Need-row-frames-requires
+row-frames-requires c κs =
+    let e = c .before .before .before .before in
+    let a = e .before .before .args in
+    (e .entry-at .ensures .small, row-within (a .g) (a .node) (a .set) (c .before .before .sets .result) _ _ (c .if1 .taken))
 
-abbrev μ-loop : tie.MeasureT-loop
-μ-loop table g node set items n₀ item₀ n item = g .items - item
-
-loop-again : tie.Need-loop-again Inv-loop μ-loop
-loop-again c = (search needs, (sum-next _ _ (c .before .before .loop .inv .1 .0) (c .frames-at .ensures .0), search needs))
-
-returns : tie.Need-returns Inv-loop μ-loop
-unfolding used
-returns c = c .before .loop .inv .1 .0 ∙ ap (sum _) (omega arith)
+returns : tie.Need-returns
+returns c =
+    let i = c .before in
+    let s = i .before .before in
+    let e = s .before .before in
+    let a = e .before .before .args in
+    row-used _ _ _ _ (e .entry-at .result + 3 * a .g .items) (length (a .table .now)) (i .if1 .taken) _ (e .entry-at .ensures) (s .sets .ensures) (c .row-frames .ensures)
 
 pub used-in-spec : {M : Type 1} → statement M
 used-in-spec =
     tie.close
     (tie.spec
-    Inv-loop
-    μ-loop
-    (λ c. (search needs, (sum-none _, search needs)))
     (λ c κs. search needs)
     (λ c. search needs)
     (λ c. search needs)
     (λ c. search needs)
-    loop-again
-    returns)
+    (λ c κs. search needs)
+    row-frames-requires
+    returns
+    (λ c κs. search needs)
+    (λ c. search needs))
