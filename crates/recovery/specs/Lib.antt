@@ -25,6 +25,7 @@ pub mod SurvivorsCode
 pub mod SidesCode
 pub mod Notes
 pub mod Rows
+pub mod RowsSound
 pub mod Tallies
 pub mod RollingCode
 pub mod NumberingCode

@@ -1,12 +1,17 @@
 // The survivors of a recovery: the live nodes but the lost one, of whose words nothing is read, its mark included.
 ghost use mathlib.Core.Path.{_≡_};
-ghost use Prim.Native.Nat.{_≤_};
+ghost use Prim.Native.Nat.{_<_, _≤_};
+ghost use lib.ListN.{length};
+ghost use Rattle.table.specs.Geometry.{wordsOf};
 ghost use Rattle.counting.specs.Counting.{Counted};
 ghost use Rattle.table.specs.View.{view, live};
-ghost use Rattle.entries.specs.Sound.{nodeSound};
 ghost use Rattle.recovery.specs.Survivors.{survivors, survivorCount, lostOutside};
 ghost use Rattle.recovery.specs.Recover.{survivorsFormed, tooFewWith, tooFew};
+ghost use Rattle.recovery.specs.Rows.{stateIn, Listed};
+ghost use Rattle.recovery.specs.RowsSound.{RowTo, SurvivorTested};
 use crate::lost::Lost;
+use crate::rows;
+use entries::frames;
 use table::geometry::Geometry;
 use table::stores;
 use table::words;
@@ -81,30 +86,59 @@ pub fn too_few(table: &[u64], g: Geometry, lost: Lost) -> bool
     too_few_with(g, k)
 }
 
+// What a pass over a node's state words tells: whether each has its form, and the frames in use.
+struct Row {
+    forms: bool,
+    frames: usize,
+}
+
+// The pass over those in the list, for the others are 0.
+fn row_listed(table: &[u64], g: Geometry, node: u8, list: &[u16], count: usize) -> Row
+    requires { ⌜ Listed (stateIn (view g (now table)) node) (g .items) (now list) count ⌝ }
+    ensures { λ r. ⌜ RowTo (view g (now (table .entry))) node (g .items) (r .forms) (r .frames) ⌝ }
+{
+    let mut forms = true;
+    let mut frames: usize = 0;
+    let mut k: usize = 0;
+    while k < count {
+        let item = list[k];
+        let state = stores::state_at(table, g, node, item);
+        let form = words::state_form(state);
+        forms = forms & form;
+        frames += rows::frames_of(state);
+        k += 1;
+    }
+    Row { forms, frames }
+}
+
 // Whether a node is no survivor, or its state words have their form and its frames suffice.
-fn survivor_sound(table: &[u64], g: Geometry, lost: Lost, node: u8) -> bool
-    ensures { λ r. ⌜ r ≡ nodeSound g (survivors lost (view g (now (table .entry)))) node ⌝ }
+fn survivor_sound(table: &[u64], g: Geometry, lost: Lost, node: u8, list: &mut [u16]) -> bool
+    requires { ⌜ (node < g .nodes) × ((wordsOf g ≤ length (now table)) × (g .items ≤ length (now list))) ⌝ }
+    ensures { λ r. ⌜ SurvivorTested g (survivors lost (view g (now (table .entry)))) node (now (list .entry)) (now (list .exit)) r ⌝ }
 {
     let mark = survivor_mark(table, g, lost, node);
     if mark == 0 {
         return true;
     }
-    let forms = entries::sound::states_form(table, g, node);
-    let fit = entries::frames::frames_fit(table, g, node);
-    forms & fit
+    let count = rows::occupied(table, g, node, list);
+    let row = row_listed(table, g, node, list, count);
+    let frames = frames::set_frames(g);
+    row.forms & (row.frames <= frames)
 }
 
 // 2: whether word forms and frames of the survivors hold.
-pub fn survivors_formed(table: &[u64], g: Geometry, lost: Lost) -> bool
+pub(crate) fn survivors_formed(table: &[u64], g: Geometry, lost: Lost) -> bool
+    requires { ⌜ (wordsOf g ≤ length (now table)) × (g .items ≤ 256) ⌝ }
     ensures { λ r. ⌜ r ≡ survivorsFormed g (survivors lost (view g (now (table .entry)))) ⌝ }
 {
     let nodes = g.nodes;
+    let mut list: [u16; 256] = [0; 256];
     let mut forms = true;
     let mut sound = true;
     let mut node: u8 = 0;
     while node < nodes {
         let form = words::mark_form(survivor_mark(table, g, lost, node));
-        let good = survivor_sound(table, g, lost, node);
+        let good = survivor_sound(table, g, lost, node, &mut list);
         forms = forms & form;
         sound = sound & good;
         node += 1;

@@ -1,0 +1,104 @@
+-- The word forms and the frames of a survivor, by a pass over its occupied entries.
+use Prim.Native.Nat.{ℕ, _+_, _*_, _≤_, _<_}
+use mathlib.Core.Path.{_≡_, refl, sym, ap, ap₂, _∙_}
+use mathlib.Core.Bool.{Bool, true, false, not, _&&_}
+use mathlib.Core.List.{List}
+use native.Mathlib.Omega.{arith}
+use mir.Val.{boolByte}
+use lib.Dec.{eqb, leb}
+use lib.ListN.{length, getD}
+use Rattle.counting.specs.Tests.{by-cases}
+use Rattle.counting.specs.Counting.{every, every-none, every-next, every-ext, sum, sum-none, sum-next, sum-ext}
+use Rattle.table.specs.declared.geometry.Geometry.{Geometry}
+use Rattle.table.specs.Words.{stateForm, currentOf, keptOf}
+use Rattle.table.specs.View.{View}
+use Rattle.entries.specs.Frames.{setFrames, frameOf, framesIn, used, framesFit, frames-here}
+use Rattle.entries.specs.Sound.{statesForm, nodeSound, node-dead}
+use Rattle.recovery.specs.declared.lost.Lost.{Lost}
+use Rattle.recovery.specs.Survivors.{survivors}
+use Rattle.recovery.specs.SurvivorsCode.{survivor-live}
+use Rattle.recovery.specs.Rows.{stateIn, Listed, reached, reached-start, reached-next, listed-turn, listed-end}
+
+-- ---- the frames of a state word
+
+frame-byte : (c : ℕ) → boolByte (not (eqb c 0)) ≡ frameOf c
+frame-byte c = by-cases (eqb c 0) (λ e. rw e refl) (λ e. rw e refl)
+
+pub frames-bytes :
+    (w : ℕ) {c k : ℕ} → c ≡ currentOf w → k ≡ keptOf w → boolByte (not (eqb c 0)) + boolByte (not (eqb k 0)) ≡ framesIn w
+unfolding framesIn
+frames-bytes w {c} {k} e f = ap₂ (λ x y. x + y) (frame-byte c ∙ ap frameOf e) (frame-byte k ∙ ap frameOf f)
+
+-- ---- the pass
+
+-- the state words before item i are passed
+pub record RowTo (v : View) (n i : ℕ) (forms : Bool) (frames : ℕ) : Type 0 where
+  pub formed : forms ≡ every (λ b. stateForm (stateIn v n b)) i
+  pub in-use : frames ≡ sum (λ b. framesIn (stateIn v n b)) i
+  pub few : frames ≤ 2 * i
+
+pub row-start : (v : View) (n : ℕ) (l : List ℕ) → RowTo v n (reached l 0) true 0
+row-start v n l = rw (reached-start l) (record { formed = every-none _; in-use = sum-none _; few = omega arith })
+
+and-true : (b : Bool) → (b && true) ≡ b
+and-true true = refl
+and-true false = refl
+
+module _ (v : View) (n : ℕ) {forms : Bool} {frames : ℕ} where
+  row-next :
+      (j : ℕ) → RowTo v n j forms frames → {state x : ℕ} {form : Bool} → state ≡ stateIn v n j → form ≡ stateForm state → x ≡ framesIn state → x ≤ 2
+      → RowTo v n (j + 1) (forms && form) (frames + x)
+  row-next j r e f h s = record {
+    formed = every-next _ j (r .formed) (f ∙ ap stateForm e);
+    in-use = sum-next _ j (r .in-use) (h ∙ ap framesIn e);
+    few = omega (arith, r .few);
+  }
+
+  row-blank : (j : ℕ) → stateIn v n j ≡ 0 → RowTo v n j forms frames → RowTo v n (j + 1) forms frames
+  unfolding framesIn
+  row-blank j e r = record {
+    formed = sym (and-true forms) ∙ every-next _ j (r .formed) (rw e refl);
+    in-use = (let z : frames ≡ frames + 0 = omega arith in z) ∙ sum-next _ j (r .in-use) (rw e refl);
+    few = omega (arith, r .few);
+  }
+
+  module _ {m : ℕ} {l : List ℕ} {count : ℕ} (o : Listed (stateIn v n) m l count) (k : ℕ) (r : RowTo v n (reached l k) forms frames) where
+    pub row-turn :
+        k < count → {state x : ℕ} {form : Bool} → state ≡ stateIn v n (getD l k 0) → form ≡ stateForm state → x ≡ framesIn state → x ≤ 2
+        → RowTo v n (reached l (k + 1)) (forms && form) (frames + x)
+    row-turn q e f h s =
+        rw (reached-next l k) (row-next (getD l k 0) (listed-turn (λ i. RowTo v n i forms frames) (stateIn v n) row-blank o k q r) e f h s)
+
+    pub row-small : k < count → frames ≤ 2 * m
+    row-small q = let a = o .ascends k q in let b = o .below k q in omega (arith, r .few)
+
+    pub row-all : k ≤ count → count ≤ k → RowTo v n m forms frames
+    row-all p q = listed-end (λ i. RowTo v n i forms frames) (stateIn v n) row-blank o k p q r
+
+-- ---- a survivor
+
+pub record SurvivorTested (g : Geometry) (w : View) (n : ℕ) (l l′ : List ℕ) (r : Bool) : Type 0 where
+  pub sound : r ≡ nodeSound g w n
+  pub size : length l′ ≡ length l
+
+module _ (g : Geometry) (lost : Lost) (v : View) (n : ℕ) {mark : ℕ} {l : List ℕ} (h : mark ≡ survivors lost v .mark n) where
+  pub tested-dead : mark ≡ 0 → SurvivorTested g (survivors lost v) n l l true
+  tested-dead d = record { sound = node-dead g (survivors lost v) n mark h d; size = refl }
+
+  pub tested-live :
+      (mark ≡ 0 → ⊥) → {forms : Bool} {frames f : ℕ} {l′ : List ℕ} → length l′ ≡ length l → RowTo v n (g .items) forms frames → f ≡ setFrames g
+      → SurvivorTested g (survivors lost v) n l l′ (forms && leb frames f)
+  unfolding statesForm used framesFit every
+  tested-live d z r e = record {
+    sound = survivor-live g lost v n h d (r .formed ∙ forms-in) (ap₂ leb (r .in-use ∙ frames-in) e ∙ one-set);
+    size = z;
+  }
+    where
+      forms-in : every (λ b. stateForm (stateIn v n b)) (g .items) ≡ statesForm g v n
+      forms-in = refl
+
+      frames-in : sum (λ b. framesIn (stateIn v n b)) (g .items) ≡ used g v n 0
+      frames-in = sum-ext (g .items) _ _ (λ b _. frames-here g v n 0 b refl refl refl)
+
+      one-set : leb (used g v n 0) (setFrames g) ≡ framesFit g v n
+      one-set = refl
