@@ -75,6 +75,10 @@ module _ (v : View) (n : ℕ) {forms : Bool} {frames : ℕ} where
     pub row-all : k ≤ count → count ≤ k → RowTo v n m forms frames
     row-all p q = listed-end (λ i. RowTo v n i forms frames) (stateIn v n) row-blank o k p q r
 
+pub row-used : (g : Geometry) (v : View) (n : ℕ) {forms : Bool} {frames : ℕ} → RowTo v n (g .items) forms frames → frames ≡ used g v n 0
+unfolding used
+row-used g v n r = r .in-use ∙ sum-ext (g .items) _ _ (λ b _. frames-here g v n 0 b refl refl refl)
+
 -- ---- a survivor
 
 pub record SurvivorTested (g : Geometry) (w : View) (n : ℕ) (l l′ : List ℕ) (r : Bool) : Type 0 where
@@ -88,17 +92,14 @@ module _ (g : Geometry) (lost : Lost) (v : View) (n : ℕ) {mark : ℕ} {l : Lis
   pub tested-live :
       (mark ≡ 0 → ⊥) → {forms : Bool} {frames f : ℕ} {l′ : List ℕ} → length l′ ≡ length l → RowTo v n (g .items) forms frames → f ≡ setFrames g
       → SurvivorTested g (survivors lost v) n l l′ (forms && leb frames f)
-  unfolding statesForm used framesFit every
+  unfolding statesForm framesFit every
   tested-live d z r e = record {
-    sound = survivor-live g lost v n h d (r .formed ∙ forms-in) (ap₂ leb (r .in-use ∙ frames-in) e ∙ one-set);
+    sound = survivor-live g lost v n h d (r .formed ∙ forms-in) (ap₂ leb (row-used g v n r) e ∙ one-set);
     size = z;
   }
     where
       forms-in : every (λ b. stateForm (stateIn v n b)) (g .items) ≡ statesForm g v n
       forms-in = refl
-
-      frames-in : sum (λ b. framesIn (stateIn v n b)) (g .items) ≡ used g v n 0
-      frames-in = sum-ext (g .items) _ _ (λ b _. frames-here g v n 0 b refl refl refl)
 
       one-set : leb (used g v n 0) (setFrames g) ≡ framesFit g v n
       one-set = refl

@@ -15,8 +15,9 @@ ghost use Rattle.recovery.specs.Survivors.{survivors};
 ghost use Rattle.recovery.specs.Rolling.{sharedCK};
 ghost use Rattle.recovery.specs.Partners.{holderOf, partnerChanges, partnerFrom, partnerStores, partnersStores};
 ghost use Rattle.recovery.specs.PartnersCounts.{usedWith};
-ghost use Rattle.recovery.specs.PartnersCode.{takesBy, Found, UsedBy, Filled, Ready, Turned};
+ghost use Rattle.recovery.specs.PartnersCode.{takesBy, Found, UsedTold, Filled, Ready, Turned};
 use crate::lost::Lost;
+use crate::rows;
 use crate::survivors;
 use entries::frames;
 use table::changes;
@@ -24,29 +25,31 @@ use table::geometry::Geometry;
 use table::stores;
 use table::words;
 
-// The set that all frames of a node are.
-const SET: u8 = 0;
-
 // The frames in use of a survivor; of any other node nothing is read.
-fn used_by(table: &[u64], g: Geometry, lost: Lost, node: u8) -> u64
-    ensures { λ r. ⌜ UsedBy g (survivors lost (view g (now (table .entry)))) node r ⌝ }
+fn used_by(table: &[u64], g: Geometry, lost: Lost, node: u8, list: &mut [u16]) -> u64
+    requires { ⌜ (node < g .nodes) × ((wordsOf g ≤ length (now table)) × (g .items ≤ length (now list))) ⌝ }
+    ensures { λ r. ⌜ UsedTold g (survivors lost (view g (now (table .entry)))) node (now (list .entry)) (now (list .exit)) r ⌝ }
 {
     let mark = survivors::survivor_mark(table, g, lost, node);
     if mark == 0 {
         return 0;
     }
-    frames::used_in(table, g, node, SET) as u64
+    let count = rows::occupied(table, g, node, list);
+    let row = survivors::row_listed(table, g, node, list, count);
+    row.frames as u64
 }
 
 // The frames in use of each survivor, in the scratch.
 fn fill_used(table: &[u64], g: Geometry, lost: Lost, scratch: &mut [u64])
-    requires { ⌜ g .nodes ≤ length (now scratch) ⌝ }
+    requires { ⌜ (wordsOf g ≤ length (now table)) × ((g .nodes ≤ length (now scratch)) × (g .items ≤ 256)) ⌝ }
     ensures { λ _. ⌜ Filled g (survivors lost (view g (now (table .entry)))) (g .nodes) (now (scratch .entry)) (now (scratch .exit)) ⌝ }
 {
     let nodes = g.nodes;
+    let mut list: [u16; 256] = [0; 256];
     let mut node: u8 = 0;
     while node < nodes {
-        scratch[node as usize] = used_by(table, g, lost, node);
+        let used = used_by(table, g, lost, node, &mut list);
+        scratch[node as usize] = used;
         node += 1;
     }
 }
@@ -245,7 +248,7 @@ pub(crate) fn partners(
     lost: Lost,
     scratch: &mut [u64],
 ) -> u64
-    requires { ⌜ (wordsOf g ≤ length (now table)) × (g .nodes ≤ length (now scratch)) ⌝ }
+    requires { ⌜ (wordsOf g ≤ length (now table)) × ((g .nodes ≤ length (now scratch)) × (g .items ≤ 256)) ⌝ }
     ensures { λ r. ⌜ Turned g lost (partnersStores g) left (now (table .entry)) (now (table .exit)) (now (scratch .entry)) (now (scratch .exit)) r ⌝ }
 {
     fill_used(table, g, lost, scratch);

@@ -87,13 +87,13 @@ pub fn too_few(table: &[u64], g: Geometry, lost: Lost) -> bool
 }
 
 // What a pass over a node's state words tells: whether each has its form, and the frames in use.
-struct Row {
-    forms: bool,
-    frames: usize,
+pub(crate) struct Row {
+    pub(crate) forms: bool,
+    pub(crate) frames: usize,
 }
 
 // The pass over those in the list, for the others are 0.
-fn row_listed(table: &[u64], g: Geometry, node: u8, list: &[u16], count: usize) -> Row
+pub(crate) fn row_listed(table: &[u64], g: Geometry, node: u8, list: &[u16], count: usize) -> Row
     requires { ⌜ Listed (stateIn (view g (now table)) node) (g .items) (now list) count ⌝ }
     ensures { λ r. ⌜ RowTo (view g (now (table .entry))) node (g .items) (r .forms) (r .frames) ⌝ }
 {
