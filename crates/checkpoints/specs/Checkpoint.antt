@@ -1,23 +1,23 @@
--- What Open, Create, Commit and Abandon have in common: the phase, the dirty items, the entries by node, then item.
+-- What Open, Create, Commit and Abandon have in common: the phase, the entries by node, then item.
 use Prim.Native.Nat.{ℕ, zero, suc, _+_, _*_, _/_, _%_, _<_, _≤_}
 use mathlib.Core.Path.{_≡_, refl, sym, ap, ap₂, _∙_}
 use mathlib.Core.Bool.{Bool, cond, not, _&&_, _||_}
 use mathlib.Core.List.{List, [], _++_, map}
 use native.Mathlib.Omega.{arith}
-use native.Mathlib.Nat.{mul-le-mul-right}
-use lib.Dec.{eqb, ltb}
+use lib.Dec.{eqb}
 use lib.ListN.{length, getD}
-use borrow.Author.Tests.{eq-eqb, ne-eqb, lt-ltb, le-ltb}
+use borrow.Author.Tests.{eq-eqb, ne-eqb, lt-ltb}
 use Rattle.counting.specs.Tests.{and-both}
-use Rattle.counting.specs.First.{first, first-turns, first-found, first-ext, first-none, first-le, first-either, found-next}
+use Rattle.counting.specs.First.{first, first-turns, first-found}
 use Rattle.table.specs.declared.geometry.Geometry.{Geometry}
 use Rattle.table.specs.declared.answers.Refusal.the-variants.{NoCheckpoint}
-use Rattle.table.specs.Geometry.{wordsOf, entryWords, entryAt, entry-within}
-use Rattle.table.specs.Words.{owner, modified, precommit1, precommit2, phaseOf, currentOf}
+use Rattle.table.specs.Geometry.{wordsOf, entryAt, entry-within}
+use Rattle.table.specs.Words.{precommit1, precommit2, phaseOf}
 use Rattle.table.specs.Stores.{Store, Change, entryStore, Stored, StoredIn, runs, runs-ext, stored-as, stored-none}
 use Rattle.table.specs.View.{Entry, View, view, current, live, mark-none, entry-word, state-read}
 use Rattle.table.specs.Pass.{pass}
 use Rattle.table.specs.PassTurns.{Local, items-turn, nodes-turn, nodes-start}
+use Rattle.entries.specs.Dirty.{owns, ownsAt}
 use Rattle.homes.specs.declared.admission.Admission.{Admission}
 use Rattle.homes.specs.declared.admission.Admission.the-variants.{Admitted, Turned}
 
@@ -34,30 +34,6 @@ isOpen g v = eqb (phaseOf (commonMark g v)) 1
 -- "8 no checkpoint open"
 unfoldable pub openAdmission : Geometry → View → Admission
 openAdmission g v = cond (isOpen g v) Admitted (Turned NoCheckpoint)
-
--- ---- dirty items
-
-abbrev pub owns : ℕ → Bool
-owns c = eqb c owner || eqb c modified
-
--- a live node where item b is Owner or Modified
-unfoldable pub ownsAt : View → ℕ → ℕ → Bool
-ownsAt v b k = live v k && owns (current (v .entry k b))
-
--- the node that owns item b; N if there is none, so that the item is clean or created
-unfoldable pub ownerOf : Geometry → View → ℕ → ℕ
-ownerOf g v b = first (ownsAt v b) (g .nodes)
-
--- "dirty .. not yet created": Precommit1 and Precommit2 stand "in the Owner's stead"
-unfoldable pub dirty : Geometry → View → ℕ → Bool
-dirty g v b = ltb (ownerOf g v b) (g .nodes)
-
--- "the lowest dirty item not yet created"; M if none is left
-unfoldable pub dirtyItem : Geometry → View → ℕ
-dirtyItem g v = first (dirty g v) (g .items)
-
-abbrev pub noneDirty : Geometry → View → Bool
-noneDirty g v = not (ltb (dirtyItem g v) (g .items))
 
 -- ---- passes
 
@@ -183,63 +159,3 @@ module _ (g : Geometry) (v : View) {mark phase : ℕ} (h : mark ≡ commonMark g
   pub open-no : (phase ≡ 1 → ⊥) → Turned NoCheckpoint ≡ openAdmission g v
   unfolding openAdmission isOpen
   open-no p = rw (← h, ← e, ne-eqb phase 1 p) refl
-
--- ---- the search for the lowest dirty item, node by node
-
--- an item that a node before n owns
-unfoldable pub ownedBefore : View → ℕ → ℕ → Bool
-ownedBefore v n b = ltb (first (ownsAt v b) n) n
-
--- the lowest of them
-unfoldable pub dirtyBefore : Geometry → View → ℕ → ℕ
-dirtyBefore g v n = first (ownedBefore v n) (g .items)
-
--- item b of a row of entries
-abbrev pub rowOwns : List ℕ → ℕ → ℕ → Bool
-rowOwns t start b = owns (currentOf (getD t (start + entryWords * b) 0))
-
-pub row-owns : (t : List ℕ) (start b : ℕ) {at c : ℕ} → at ≡ start + entryWords * b → c ≡ currentOf (getD t at 0) → owns c ≡ rowOwns t start b
-row-owns t start b p q = ap (λ x. owns x) (q ∙ ap (λ x. currentOf (getD t x 0)) p)
-
--- the entries of a node and the first m items, in a table that has all its words
-pub record Row (g : Geometry) (t : List ℕ) (n m : ℕ) : Type 0 where
-  pub node : n < g .nodes
-  pub items : m ≤ g .items
-  pub long : wordsOf g ≤ length t
-
-module _ {g : Geometry} {t : List ℕ} {n m start : ℕ} (h : Row g t n m) (e : start ≡ entryAt g n 0) where
-  pub row-within : start + entryWords * m ≤ length t
-  row-within = let k : n + 1 ≤ g .nodes = omega (arith, h .node) in omega (arith, mul-le-mul-right (g .items) k, h .items, h .long)
-
-  pub row-state : (b : ℕ) → b < m → getD t (start + entryWords * b) 0 ≡ view g t .entry n b .state
-  row-state b l = lies-state (record { node = h .node; item = omega (arith, h .items); place = omega arith; long = h .long })
-
-  -- a live node's
-  pub lowest-live : {mark : ℕ} → mark ≡ view g t .mark n → (mark ≡ 0 → ⊥) → first (rowOwns t start) m ≡ first (λ b. ownsAt (view g t) b n) m
-  unfolding ownsAt
-  lowest-live {mark} k d = first-ext m (rowOwns t start) (λ b. ownsAt (view g t) b n) (λ b l. rw (← k, ne-eqb mark 0 d) (ap (λ s. owns (currentOf s)) (row-state b l)))
-
--- a dead node's
-pub lowest-dead : (v : View) (n items : ℕ) {mark : ℕ} → mark ≡ v .mark n → mark ≡ 0 → items ≡ first (λ b. ownsAt v b n) items
-unfolding ownsAt
-lowest-dead v n items k d = sym (first-none (λ b. ownsAt v b n) items (λ b l. rw (← k, eq-eqb _ 0 d) refl))
-
--- before the first node, one node more, and all
-module _ (g : Geometry) (v : View) where
-  pub dirty-starts : g .items ≡ dirtyBefore g v 0
-  unfolding dirtyBefore ownedBefore
-  dirty-starts = sym (first-none (ownedBefore v 0) (g .items) (λ b l. le-ltb (first (ownsAt v b) 0) 0 (omega arith)))
-
-  pub dirty-turns : (n : ℕ) {found r : ℕ} → found ≡ dirtyBefore g v n → r ≡ first (λ b. ownsAt v b n) found → r ≡ dirtyBefore g v (n + 1)
-  unfolding dirtyBefore ownedBefore
-  dirty-turns n e h =
-      h ∙ ap (first (λ b. ownsAt v b n)) e ∙ sym (first-either (ownedBefore v n) (λ b. ownsAt v b n) (g .items))
-      ∙ first-ext (g .items) _ (ownedBefore v (n + 1)) (λ b l. sym (found-next (ownsAt v b) n))
-
-  pub dirty-bound : (n : ℕ) {found : ℕ} → found ≡ dirtyBefore g v n → found ≤ g .items
-  unfolding dirtyBefore
-  dirty-bound n e = omega (arith, first-le (ownedBefore v n) (g .items))
-
-  pub dirty-ends : (n : ℕ) {found : ℕ} → found ≡ dirtyBefore g v n → n ≤ g .nodes → g .nodes ≤ n → found ≡ dirtyItem g v
-  unfolding dirtyBefore ownedBefore dirtyItem dirty ownerOf
-  dirty-ends n e h k = let q : n ≡ g .nodes = omega arith in rw q at e

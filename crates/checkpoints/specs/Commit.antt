@@ -17,7 +17,8 @@ use Rattle.homes.specs.declared.admission.Admission.{Admission}
 use Rattle.homes.specs.declared.admission.Admission.the-variants.{Admitted, Turned}
 use Rattle.checkpoints.specs.declared.checkpoint.Closing.the-variants.{Committed}
 use Rattle.homes.specs.Plans.{planBy}
-use Rattle.checkpoints.specs.Checkpoint.{openAdmission, dirtyItem, noneDirty, entriesTo}
+use Rattle.entries.specs.Dirty.{dirtyItem, noneDirty}
+use Rattle.checkpoints.specs.Checkpoint.{openAdmission, entriesTo}
 use Rattle.checkpoints.specs.Closing.{closeChange}
 
 -- ---- the stores

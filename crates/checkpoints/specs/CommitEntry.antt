@@ -17,7 +17,8 @@ use Rattle.table.specs.Stores.{stateTo}
 use Rattle.table.specs.Pass.{Steps, last, next}
 use Rattle.table.specs.Copies.{backCopy, backBy}
 use Rattle.entries.specs.Frames.{frameOf, framesIn, frames-state}
-use Rattle.checkpoints.specs.Checkpoint.{isPrecommit, owns}
+use Rattle.entries.specs.Dirty.{owns}
+use Rattle.checkpoints.specs.Checkpoint.{isPrecommit}
 use Rattle.checkpoints.specs.Closing.{commits, commitChange}
 use Rattle.checkpoints.specs.Forward.{forwardCopy}
 

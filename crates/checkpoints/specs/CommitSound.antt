@@ -25,7 +25,8 @@ use Rattle.entries.specs.SoundFacts.{SoundTable, numberIn}
 use Rattle.entries.specs.CheckFacts.{Accepted, facts-accepted}
 use Rattle.homes.specs.declared.admission.Admission.the-variants.{Admitted}
 use Rattle.checkpoints.specs.declared.checkpoint.Closing.the-variants.{Committed}
-use Rattle.checkpoints.specs.Checkpoint.{isPrecommit, owns}
+use Rattle.entries.specs.Dirty.{owns}
+use Rattle.checkpoints.specs.Checkpoint.{isPrecommit}
 use Rattle.checkpoints.specs.Closing.{closeChange, commits}
 use Rattle.checkpoints.specs.Commit.{committingMark, committedMark, commitStores, commitAdmission, commitOf}
 use Rattle.homes.specs.Kept.{live-test, test-live}

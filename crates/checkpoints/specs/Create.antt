@@ -12,7 +12,8 @@ use Rattle.table.specs.View.{View, current, kept, live}
 use Rattle.table.specs.Answers.{Plan, refuse, nothingLeft, carry}
 use Rattle.counting.specs.First.{first}
 use Rattle.homes.specs.declared.places.Place.the-variants.{Current}
-use Rattle.checkpoints.specs.Checkpoint.{openAdmission, ownerOf, dirtyItem, noneDirty}
+use Rattle.entries.specs.Dirty.{ownerOf, dirtyItem, noneDirty}
+use Rattle.checkpoints.specs.Checkpoint.{openAdmission}
 use Rattle.homes.specs.Home.{homeOf, noHome, homeStores}
 use Rattle.homes.specs.Plans.{planBy}
 

@@ -17,7 +17,7 @@ use Rattle.table.specs.Answers.{Plan, refuse, nothingLeft, carry, Meets}
 use Rattle.homes.specs.Plans.{meets-as}
 use Rattle.homes.specs.declared.places.Place.the-variants.{Current}
 use Rattle.homes.specs.declared.home.Arrival.{Arrival}
-use Rattle.checkpoints.specs.Checkpoint.{ownerOf, dirty, dirtyItem}
+use Rattle.entries.specs.Dirty.{ownerOf, dirty, dirtyItem}
 use Rattle.homes.specs.Home.{homeOf, arrivalOf, homeStores, homeStoresBy}
 use Rattle.checkpoints.specs.Create.{sharesAt, sharerOf, turn, partnerStores, createItem, noPartner, createPlan}
 

@@ -15,7 +15,7 @@ use Rattle.table.specs.View.{Entry, current, kept, changed}
 use Rattle.table.specs.Pass.{Steps, last, next}
 use Rattle.table.specs.Copies.{backBy, value-free}
 use Rattle.entries.specs.Frames.{frameOf, framesIn, frames-state}
-use Rattle.checkpoints.specs.Checkpoint.{owns}
+use Rattle.entries.specs.Dirty.{owns}
 use Rattle.homes.specs.Placed.{placed}
 use Rattle.homes.specs.Safe.{Safe}
 

@@ -17,7 +17,8 @@ use Rattle.entries.specs.Check.{faultOf}
 use Rattle.homes.specs.declared.admission.Admission.{Admission}
 use Rattle.homes.specs.declared.admission.Admission.the-variants.{Admitted, Turned}
 use Rattle.homes.specs.Plans.{planAdmitted, planChecked, planBy, plan-admitted}
-use Rattle.checkpoints.specs.Checkpoint.{isOpen, openAdmission, dirty, dirtyItem}
+use Rattle.entries.specs.Dirty.{dirty, dirtyItem}
+use Rattle.checkpoints.specs.Checkpoint.{isOpen, openAdmission}
 use Rattle.checkpoints.specs.Create.{createStores, noPartner, createPlan, createOf}
 
 pub record NoneLeft (t : List ℕ) : Type 0 where

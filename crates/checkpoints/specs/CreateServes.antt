@@ -12,7 +12,7 @@ use Rattle.table.specs.Words.{numberOf}
 use Rattle.table.specs.Stores.{Store, after}
 use Rattle.table.specs.View.{View, view, current}
 use Rattle.table.specs.Answers.{carry}
-use Rattle.checkpoints.specs.Checkpoint.{owns}
+use Rattle.entries.specs.Dirty.{owns}
 use Rattle.checkpoints.specs.Create.{createOf}
 use Rattle.homes.specs.Kept.{Live}
 use Rattle.checkpoints.specs.Created.{Pairing, Paired}

@@ -26,7 +26,7 @@ use Rattle.entries.specs.CheckFacts.{Accepted, facts-accepted}
 use Rattle.homes.specs.declared.places.Place.{Place}
 use Rattle.homes.specs.declared.places.Place.the-variants.{Current}
 use Rattle.homes.specs.declared.home.Arrival.{Arrival}
-use Rattle.checkpoints.specs.Checkpoint.{owns, ownerOf, dirtyItem}
+use Rattle.entries.specs.Dirty.{owns, ownerOf, dirtyItem}
 use Rattle.homes.specs.Home.{homeOf, arrivalOf, arrivalChanges, dropStores, takeoverStores, homeStoresBy, homeStores}
 use Rattle.checkpoints.specs.Create.{hasSharer, sharerOf, turn, partnerStores, createItem, createOf}
 use Rattle.homes.specs.Kept.{Kept, live-test}

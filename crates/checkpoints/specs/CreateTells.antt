@@ -19,7 +19,7 @@ use Rattle.table.specs.Answers.{refuse, nothingLeft, carry}
 use Rattle.entries.specs.Kinds.{Kind, clean, dirty, created, copy-at}
 use Rattle.entries.specs.SoundFacts.{SoundTable}
 use Rattle.homes.specs.declared.places.Place.the-variants.{Current}
-use Rattle.checkpoints.specs.Checkpoint.{owns, ownsAt, ownerOf, dirtyItem}
+use Rattle.entries.specs.Dirty.{owns, ownsAt, ownerOf, dirtyItem}
 use Rattle.homes.specs.Home.{sharedItem, sharedAt, hasFrame, hasRoom, placeFits, fits, homeOf, droppedItem}
 use Rattle.homes.specs.HomeLaws.{home-fits}
 use Rattle.checkpoints.specs.Create.{sharesAt, sharerOf, hasSharer, partnerStores, createItem, createStores, noPartner, createPlan}

@@ -14,7 +14,8 @@ use Rattle.entries.specs.Check.{faultOf}
 use Rattle.entries.specs.SoundFacts.{phaseIn, numberIn}
 use Rattle.entries.specs.CheckFacts.{Accepted, accepted-facts}
 use Rattle.homes.specs.Plans.{Acted, plan-acted}
-use Rattle.checkpoints.specs.Checkpoint.{openAdmission, dirtyItem}
+use Rattle.entries.specs.Dirty.{dirtyItem}
+use Rattle.checkpoints.specs.Checkpoint.{openAdmission}
 use Rattle.checkpoints.specs.Create.{createStores, noPartner, createPlan, createOf}
 use Rattle.homes.specs.Kept.{Kept}
 use Rattle.checkpoints.specs.Created.{CreateFinds, CreateLeaves}

@@ -18,7 +18,7 @@ use Rattle.table.specs.Pass.{Changed}
 use Rattle.entries.specs.Frames.{setOf, setFrames, used, set-there}
 use Rattle.entries.specs.SoundFacts.{SoundTable}
 use Rattle.homes.specs.declared.places.Place.the-variants.{Current}
-use Rattle.checkpoints.specs.Checkpoint.{owns}
+use Rattle.entries.specs.Dirty.{owns}
 use Rattle.homes.specs.Home.{sharedAt, sharedItem, hasFrame, hasRoom, droppedItem, arrivalOf, dropStores, arrivalChanges, homeStoresBy, homeStores}
 use Rattle.checkpoints.specs.Create.{turn}
 use Rattle.homes.specs.Kept.{Live, Kept, live-test}

@@ -7,7 +7,7 @@ use Rattle.table.specs.declared.geometry.Geometry.{Geometry}
 use Rattle.table.specs.Words.{invalid, shared, precommit1, precommit2}
 use Rattle.table.specs.View.{View, current}
 use Rattle.homes.specs.declared.places.Place.the-variants.{Current}
-use Rattle.checkpoints.specs.Checkpoint.{owns, ownerOf, dirtyItem}
+use Rattle.entries.specs.Dirty.{owns, ownerOf, dirtyItem}
 use Rattle.homes.specs.Home.{homeOf, droppedItem}
 use Rattle.checkpoints.specs.Create.{sharerOf, hasSharer}
 use Rattle.homes.specs.Kept.{Live}

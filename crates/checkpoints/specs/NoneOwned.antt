@@ -12,7 +12,8 @@ use Rattle.table.specs.declared.answers.Refusal.the-variants.{NotCreated}
 use Rattle.table.specs.View.{View, live, current}
 use Rattle.homes.specs.declared.admission.Admission.{Admission}
 use Rattle.homes.specs.declared.admission.Admission.the-variants.{Admitted, Turned}
-use Rattle.checkpoints.specs.Checkpoint.{openAdmission, owns, ownsAt, ownerOf, dirty, dirtyItem}
+use Rattle.entries.specs.Dirty.{owns, ownsAt, ownerOf, dirty, dirtyItem}
+use Rattle.checkpoints.specs.Checkpoint.{openAdmission}
 use Rattle.checkpoints.specs.Commit.{createdAdmission, commitAdmission}
 use Rattle.homes.specs.Kept.{Live, live-test}
 

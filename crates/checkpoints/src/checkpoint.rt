@@ -1,14 +1,14 @@
 // What Open, Create, Commit and Abandon have in common.
 ghost use mathlib.Core.Path.{_≡_};
-ghost use Prim.Native.Nat.{_+_, _*_, _<_, _≤_};
+ghost use Prim.Native.Nat.{_<_, _≤_};
 ghost use lib.ListN.{length};
-ghost use Rattle.counting.specs.First.{first};
-ghost use Rattle.table.specs.Geometry.{wordsOf, entryWords};
+ghost use Rattle.table.specs.Geometry.{wordsOf};
 ghost use Rattle.table.specs.Stores.{Stored, StoredIn};
 ghost use Rattle.table.specs.View.{view};
 ghost use Rattle.table.specs.MarksPass.{markTo};
 ghost use Rattle.table.specs.Pass.{pass};
-ghost use Rattle.checkpoints.specs.Checkpoint.{commonMark, openAdmission, owns, ownsAt, ownerOf, dirtyItem, rowOwns, Row, Lies, liveChanges, entriesTo};
+ghost use Rattle.entries.specs.Dirty.{ownsAt, ownerOf};
+ghost use Rattle.checkpoints.specs.Checkpoint.{commonMark, openAdmission, Lies, liveChanges, entriesTo};
 ghost use Rattle.checkpoints.specs.Closing.{commitChange, abandonChange, closeChange};
 ghost use Rattle.checkpoints.specs.ClosingCode.{MarksStored};
 use homes::admission::Admission;
@@ -75,54 +75,6 @@ pub fn owner_of(table: &[u64], g: Geometry, item: u16) -> u8
         node += 1;
     }
     nodes
-}
-
-// The lowest item under `found` that is Owner or Modified in a row of entries; `found` if there is none.
-fn lowest_owned(table: &[u64], start: usize, found: u16) -> u16
-    requires { ⌜ start + entryWords * found ≤ length (now table) ⌝ }
-    ensures { λ r. ⌜ r ≡ first (rowOwns (now (table .entry)) start) found ⌝ }
-{
-    let mut at = start;
-    let mut item: u16 = 0;
-    while item < found {
-        let state = table[at];
-        let current = words::current_of(state);
-        let owns = (current == words::OWNER) | (current == words::MODIFIED);
-        if owns {
-            return item;
-        }
-        at += Geometry::ENTRY_WORDS;
-        item += 1;
-    }
-    found
-}
-
-// The lowest item under `found` that a node owns; `found` if there is none, or if the node is dead.
-fn lowest_dirty(table: &[u64], g: Geometry, node: u8, found: u16) -> u16
-    requires { ⌜ Row g (now table) node found ⌝ }
-    ensures { λ r. ⌜ r ≡ first (λ b. ownsAt (view g (now (table .entry))) b node) found ⌝ }
-{
-    let mark = stores::mark_at(table, g, node);
-    if mark == 0 {
-        return found;
-    }
-    let start = g.entry_at(node, 0);
-    lowest_owned(table, start, found)
-}
-
-// The lowest dirty item that is not created, or the number of items if none is left. Node by node, each asked for the items under the lowest found.
-pub(crate) fn dirty_item(table: &[u64], g: Geometry) -> u16
-    requires { ⌜ wordsOf g ≤ length (now table) ⌝ }
-    ensures { λ r. ⌜ r ≡ dirtyItem g (view g (now (table .entry))) ⌝ }
-{
-    let nodes = g.nodes;
-    let mut found = g.items;
-    let mut node: u8 = 0;
-    while node < nodes {
-        found = lowest_dirty(table, g, node, found);
-        node += 1;
-    }
-    found
 }
 
 // The turn of one mark: a live node's becomes the word.

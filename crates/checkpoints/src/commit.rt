@@ -1,25 +1,24 @@
 // Commit: the created items become the recovery point.
 ghost use mathlib.Core.Path.{_≡_};
-ghost use Prim.Native.Nat.{_+_, _%_, _^_, _≤_};
-ghost use lib.ListN.{length};
-ghost use Rattle.table.specs.Geometry.{wordsOf};
+ghost use Prim.Native.Nat.{_+_, _%_, _^_};
 ghost use Rattle.table.specs.Stores.{Stored};
 ghost use Rattle.table.specs.View.{view};
 ghost use Rattle.table.specs.Answers.{Meets};
+ghost use Rattle.entries.specs.Dirty.{dirtyItem};
 ghost use Rattle.checkpoints.specs.Commit.{commitAdmission, commitStores, commitOf};
 ghost use Rattle.checkpoints.specs.ClosingCode.{Agreed};
 use crate::checkpoint;
 use crate::checkpoint::Closing;
-use entries::check::Checked;
+use entries::check::Surveyed;
 use homes::admission::Admission;
 use table::answers::Answer;
 use table::answers::Refusal;
 use table::geometry::Geometry;
 use table::words;
 
-// 8 no checkpoint open; 12 a dirty item not created.
-fn admit_commit(table: &[u64], g: Geometry) -> Admission
-    requires { ⌜ wordsOf g ≤ length (now table) ⌝ }
+// 8 no checkpoint open; 12 a dirty item not created, which is the item given.
+fn admit_commit(table: &[u64], g: Geometry, item: u16) -> Admission
+    requires { ⌜ item ≡ dirtyItem g (view g (now table)) ⌝ }
     ensures { λ r. ⌜ r ≡ commitAdmission g (view g (now (table .entry))) ⌝ }
 {
     let admission = checkpoint::admit_open(table, g);
@@ -27,7 +26,6 @@ fn admit_commit(table: &[u64], g: Geometry) -> Admission
         Admission::Turned(x) => Admission::Turned(x),
         Admission::Admitted => {
             let items = g.items;
-            let item = checkpoint::dirty_item(table, g);
             if item < items {
                 return Admission::Turned(Refusal::NotCreated);
             }
@@ -61,11 +59,11 @@ fn commit_stores(table: &mut [u64], left: u64, g: Geometry) -> u64
 pub fn commit(table: &mut [u64], limit: u64) -> Answer
     ensures { λ r. ⌜ Meets (commitOf (now (table .entry))) limit (now (table .entry)) (now (table .exit)) r ⌝ }
 {
-    let checked = entries::check::check_table(table);
-    match checked {
-        Checked::Failed(x) => Answer::Refused(x),
-        Checked::Passed(g) => {
-            let admission = admit_commit(table, g);
+    let surveyed = entries::check::survey_table(table);
+    match surveyed {
+        Surveyed::Refused(x) => Answer::Refused(x),
+        Surveyed::Sound(g, item) => {
+            let admission = admit_commit(table, g, item);
             match admission {
                 Admission::Turned(x) => Answer::Refused(x),
                 Admission::Admitted => {

@@ -1,15 +1,13 @@
 // Create: the lowest dirty item gets its two copies of the new point.
 ghost use mathlib.Core.Path.{_≡_};
-ghost use Prim.Native.Nat.{_<_, _≤_};
-ghost use lib.ListN.{length};
-ghost use Rattle.table.specs.Geometry.{wordsOf};
+ghost use Prim.Native.Nat.{_<_};
 ghost use Rattle.table.specs.Stores.{Stored};
 ghost use Rattle.table.specs.View.{view};
 ghost use Rattle.table.specs.Answers.{Meets};
-ghost use Rattle.checkpoints.specs.Checkpoint.{ownerOf};
+ghost use Rattle.entries.specs.Dirty.{ownerOf, dirtyItem};
 ghost use Rattle.checkpoints.specs.Create.{sharesAt, sharerOf, createPlan, createOf};
 ghost use Rattle.checkpoints.specs.CreateCode.{itemPlan, sharerStores, takenStores};
-use entries::check::Checked;
+use entries::check::Surveyed;
 use homes::admission::Admission;
 use homes::places::Place;
 use table::answers::Answer;
@@ -100,12 +98,11 @@ fn create_item(table: &mut [u64], limit: u64, g: Geometry, item: u16) -> Answer
     Answer::Done { value: 0, stores }
 }
 
-// The lowest dirty item is created; 17 if none is left.
-fn create_next(table: &mut [u64], limit: u64, g: Geometry) -> Answer
-    requires { ⌜ wordsOf g ≤ length (now table) ⌝ }
+// The lowest dirty item, which is given, is created; 17 if none is left.
+fn create_next(table: &mut [u64], limit: u64, g: Geometry, item: u16) -> Answer
+    requires { ⌜ item ≡ dirtyItem g (view g (now table)) ⌝ }
     ensures { λ r. ⌜ Meets (createPlan g (view g (now (table .entry)))) limit (now (table .entry)) (now (table .exit)) r ⌝ }
 {
-    let item = crate::checkpoint::dirty_item(table, g);
     let items = g.items;
     if item < items {
         return create_item(table, limit, g, item);
@@ -117,14 +114,14 @@ fn create_next(table: &mut [u64], limit: u64, g: Geometry) -> Answer
 pub fn create(table: &mut [u64], limit: u64) -> Answer
     ensures { λ r. ⌜ Meets (createOf (now (table .entry))) limit (now (table .entry)) (now (table .exit)) r ⌝ }
 {
-    let checked = entries::check::check_table(table);
-    match checked {
-        Checked::Failed(x) => Answer::Refused(x),
-        Checked::Passed(g) => {
+    let surveyed = entries::check::survey_table(table);
+    match surveyed {
+        Surveyed::Refused(x) => Answer::Refused(x),
+        Surveyed::Sound(g, item) => {
             let admission = crate::checkpoint::admit_open(table, g);
             match admission {
                 Admission::Turned(x) => Answer::Refused(x),
-                Admission::Admitted => create_next(table, limit, g),
+                Admission::Admitted => create_next(table, limit, g, item),
             }
         }
     }

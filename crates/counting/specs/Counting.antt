@@ -43,6 +43,15 @@ every-next p n h e = rw (add-one, h, e)
 pub every-ends : (p : ℕ → Bool) {n m : ℕ} {a : Bool} → n ≤ m → m ≤ n → a ≡ every p n → a ≡ every p m
 every-ends p h g e = e ∙ ap (λ k. every p k) (omega arith)
 
+-- from the last one down
+pub every-back : (p : ℕ → Bool) (n : ℕ) (a : Bool) {m : ℕ} {b : Bool} → m ≡ n + 1 → b ≡ p n → (every p m && a) ≡ (every p n && (b && a))
+unfolding every
+every-back p n a e h = rw (e, h, add-one) (by-cases (every p n) (λ q. rw q refl) (λ q. rw q refl))
+
+pub every-back-ends : (p : ℕ → Bool) {n : ℕ} (a : Bool) → n ≤ 0 → (every p n && a) ≡ a
+unfolding every
+every-back-ends p {n} a h = let e : n ≡ 0 = omega arith in rw e refl
+
 pub sum-none : (f : ℕ → ℕ) → 0 ≡ sum f 0
 unfolding sum
 sum-none f = refl

@@ -1,5 +1,6 @@
 -- The entries of a table: frames in use, soundness, the table checks with their facts; Format, Check and Stretch.
 pub mod Frames
+pub mod Dirty
 pub mod Tally
 pub mod Items
 pub mod Sound
@@ -15,6 +16,7 @@ pub mod SurveyWeight
 pub mod SurveyGather
 pub mod SurveyNoting
 pub mod MarksLoop
+pub mod SurveyDirty
 pub mod Check
 pub mod Kinds
 pub mod Codes

@@ -93,3 +93,15 @@ abbrev pub kindTest : ℕ → ℕ → Bool
 kindTest phase t =
     eqb (t / 32) (2 ^ 20 + 2 ^ 25)
     || ((eqb t (1 + 2 ^ 5 + 2 ^ 10 + 2 ^ 20) || eqb (t / 32) (1 + 2 ^ 5 + 2 ^ 10)) || (eqb phase 1 && eqb (t / 32) (1 + 2 ^ 5 + 2 ^ 30 + 2 ^ 35)))
+
+-- the same with one number for the phase: a created item's tally, without its copies, or an owned one's
+abbrev pub createdTally : ℕ → ℕ
+createdTally phase = cond (eqb phase 1) (1 + 2 ^ 5 + 2 ^ 30 + 2 ^ 35) (1 + 2 ^ 5 + 2 ^ 10)
+
+abbrev pub kindBy : ℕ → ℕ → Bool
+kindBy created t =
+    eqb (t / 32) (2 ^ 20 + 2 ^ 25) || ((eqb t (1 + 2 ^ 5 + 2 ^ 10 + 2 ^ 20) || eqb (t / 32) (1 + 2 ^ 5 + 2 ^ 10)) || eqb (t / 32) created)
+
+-- by its tally, an item has an Owner or a Modified
+abbrev pub ownsTest : ℕ → Bool
+ownsTest t = not (eqb (t / 2 ^ 15 % 1024) 0)

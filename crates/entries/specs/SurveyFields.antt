@@ -68,7 +68,7 @@ keeps-two : (top : ℕ) → one (keeps top) ≡ one (keepsAt 1 top) + one (keeps
 unfolding keeps keepsAt
 keeps-two top = by-cases (codesForm top) (λ e. rw e (kept-two (top % 4) (form-codes top e .1))) (λ e. rw e refl)
 
-none-of : (i j c : ℕ) → c ≡ i + j → eqb (i + j * 2 ^ 5) 0 ≡ eqb c 0
+pub none-of : (i j c : ℕ) → c ≡ i + j → eqb (i + j * 2 ^ 5) 0 ≡ eqb c 0
 none-of i j c e = bool-iff (eqb (i + j * 2 ^ 5) 0) (eqb c 0)
     (λ h. eq-eqb c 0 (omega (arith, eqb-true (i + j * 2 ^ 5) 0 h)))
     (λ h. eq-eqb (i + j * 2 ^ 5) 0 (omega (arith, eqb-true c 0 h)))

@@ -289,7 +289,7 @@ module _ (v : View) (b n : ℕ) (few : n < 32) (formed : (m : ℕ) → m < n →
   same-top : (p q : ℕ → Bool) → ((m : ℕ) → codesForm (topAt v b m) ≡ true → p m ≡ q (topAt v b m)) → (m : ℕ) → m < n → (live v m && p m) ≡ liveTop q v b m
   same-top p q h m l = and-same (live v m) (p m) (q (topAt v b m)) (λ t. h m (formed m l t))
 
-  same-has : (code m : ℕ) → m < n → has v b code m ≡ liveTop (holdsAt code) v b m
+  pub same-has : (code m : ℕ) → m < n → has v b code m ≡ liveTop (holdsAt code) v b m
   unfolding holdsAt
   same-has code = same-top (λ m. eqb (current (v .entry m b)) code) (holdsAt code) (λ m e. form-and e (ap (λ c. eqb c code) (quarter (v .entry m b .state))))
 

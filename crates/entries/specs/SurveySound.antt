@@ -65,7 +65,7 @@ pub record RowsSurveyed (g : Geometry) (v : View) (n : ℕ) (notes : List ℕ) (
 
 -- ---- forms
 
-form-parts : (w : ℕ) → stateForm w ≡ (lowForm w && codesForm (topOf w))
+pub form-parts : (w : ℕ) → stateForm w ≡ (lowForm w && codesForm (topOf w))
 unfolding codesForm
 form-parts w = let e : currentOf w ≡ topOf w / 4 = omega arith in rw e refl
 

@@ -4,11 +4,13 @@ ghost use Prim.Native.Nat.{_<_};
 ghost use Rattle.table.specs.View.{view};
 ghost use Rattle.entries.specs.Frames.{setsOf};
 ghost use Rattle.entries.specs.NodePass.{rowState, RowPassed, NodePassed};
-ghost use Rattle.entries.specs.Sound.{statesForm, nodeSound, sound};
+ghost use Rattle.entries.specs.Sound.{statesForm, nodeSound};
 ghost use Rattle.entries.specs.SurveySound.{Surveyable};
+ghost use Rattle.entries.specs.SurveyDirty.{TableFound};
 use crate::frames;
 use crate::marks;
 use crate::survey;
+use crate::survey::Findings;
 use table::geometry::Geometry;
 use table::stores;
 use table::words;
@@ -85,14 +87,17 @@ pub fn node_sound(table: &[u64], g: Geometry, node: u8) -> bool
     forms & fit
 }
 
-// Whether a table of this geometry is sound.
-pub(crate) fn table_sound(table: &[u64], g: Geometry) -> bool
+// Whether a table of this geometry is sound, and if it is, the lowest dirty item that is not created.
+pub(crate) fn table_sound(table: &[u64], g: Geometry) -> Findings
     requires { ⌜ Surveyable g (now table) ⌝ }
-    ensures { λ r. ⌜ r ≡ sound g (view g (now (table .entry))) ⌝ }
+    ensures { λ r. ⌜ TableFound g (view g (now (table .entry))) r ⌝ }
 {
     let m = marks::marks_met(table, g);
     let agree = marks::agree(m);
     let phase = words::phase_of(m.first) as u64;
     let rest = survey::survey(table, g, phase);
-    agree & rest
+    Findings {
+        sound: agree & rest.sound,
+        dirty: rest.dirty,
+    }
 }

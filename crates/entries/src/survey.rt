@@ -1,17 +1,15 @@
 // The survey of a table by rows, in memory order. Of each row the entries that hold something are gathered, and only these are looked at: each adds its
 // weight to its item's tally, and its values are compared with the first that the item had.
 ghost use mathlib.Core.Path.{_≡_};
-ghost use mathlib.Core.Bool.{_&&_};
 ghost use Prim.Native.Nat.{_+_, _*_, _/_, _%_, _^_, _<_, _≤_};
 ghost use lib.ListN.{length, getD};
-ghost use Rattle.counting.specs.Counting.{every};
 ghost use Rattle.table.specs.View.{view};
-ghost use Rattle.entries.specs.Sound.{nodesSound, itemsSound};
 ghost use Rattle.entries.specs.NodePass.{rowState};
-ghost use Rattle.entries.specs.Survey.{topOf, weightOf, kindTest};
+ghost use Rattle.entries.specs.Survey.{topOf, weightOf, createdTally, kindBy};
 ghost use Rattle.entries.specs.SurveyRow.{Gathered, EntryNoted, RowReady, RowNoted};
 ghost use Rattle.entries.specs.SurveyGather.{Gathering, GatheredMore};
 ghost use Rattle.entries.specs.SurveySound.{fitsTest, RowFrames, Surveyable, Surveying, RowSurveyed, RowsSurveyed};
+ghost use Rattle.entries.specs.SurveyDirty.{KindsFound, Found};
 use crate::frames;
 use table::geometry::Geometry;
 use table::stores;
@@ -20,6 +18,12 @@ use table::stores;
 struct Turn {
     frames: u64,
     same: bool,
+}
+
+// Whether all is sound, and the lowest item with an Owner or a Modified, or the number of items.
+pub(crate) struct Findings {
+    pub sound: bool,
+    pub dirty: u16,
 }
 
 // The weight of an entry, by the six top bits of its state word.
@@ -199,47 +203,73 @@ fn rows_sound(table: &[u64], g: Geometry, list: &mut [u16], notes: &mut [u64]) -
     ok
 }
 
-// Whether an item is clean, dirty, or, in phase 1 only, created, by its tally.
-fn kind_sound(tally: u64, phase: u64) -> bool
-    ensures { λ r. ⌜ r ≡ kindTest phase (tally % 2 ^ 45) ⌝ }
+// The tally of a created item, without its copies, in phase 1; in the others, where no item is created, that of an owned one.
+fn created_tally(phase: u64) -> u64
+    ensures { λ r. ⌜ r ≡ createdTally phase ⌝ }
+{
+    if phase == 1 {
+        return 0x8_4000_0021;
+    }
+    0x421
+}
+
+// Whether an item is clean, dirty or created, by its tally and that of a created one.
+fn kind_sound(tally: u64, created: u64) -> bool
+    ensures { λ r. ⌜ r ≡ kindBy created (tally % 2 ^ 45) ⌝ }
 {
     let t = tally % 0x2000_0000_0000;
     let apart = t / 32;
-    (apart == 0x210_0000)
-        | (((t == 0x10_0421) | (apart == 0x421)) | ((phase == 1) & (apart == 0x8_4000_0021)))
+    (apart == 0x210_0000) | (((t == 0x10_0421) | (apart == 0x421)) | (apart == created))
 }
 
-// Whether each item is clean, dirty, or, in phase 1 only, created, by the tallies.
-fn kinds_sound(notes: &[u64], items: u16, phase: u64) -> bool
+// Whether each item is clean, dirty, or, in phase 1 only, created, by the tallies, from the last item down; and the lowest with an Owner or a Modified.
+fn kinds_sound(notes: &[u64], items: u16, phase: u64) -> Findings
     requires { ⌜ 3 * items ≤ length (now notes) ⌝ }
-    ensures { λ r. ⌜ r ≡ every (λ b. kindTest phase (getD (now (notes .entry)) (3 * b) 0 % 2 ^ 45)) items ⌝ }
+    ensures { λ r. ⌜ KindsFound (now (notes .entry)) items phase r ⌝ }
 {
-    let mut ok = true;
-    let mut at: usize = 0;
-    let mut item: u16 = 0;
-    while item < items {
-        let good = kind_sound(notes[at], phase);
-        ok = ok & good;
-        at += 3;
-        item += 1;
+    let created = created_tally(phase);
+    let mut sound = true;
+    let mut dirty = items;
+    let mut at = 3 * (items as usize);
+    let mut item = items;
+    while 0 < item {
+        item -= 1;
+        at -= 3;
+        let tally = notes[at];
+        let good = kind_sound(tally, created);
+        sound = good & sound;
+        dirty = if tally / 0x8000 % 1024 == 0 {
+            dirty
+        } else {
+            item
+        };
     }
-    ok
+    Findings { sound, dirty }
 }
 
-// Whether nodes and items are sound, with a list and notes that are long enough, the notes zero.
-fn survey_in(table: &[u64], g: Geometry, phase: u64, list: &mut [u16], notes: &mut [u64]) -> bool
+// The survey with a list and notes that are long enough, the notes zero.
+fn survey_in(
+    table: &[u64],
+    g: Geometry,
+    phase: u64,
+    list: &mut [u16],
+    notes: &mut [u64],
+) -> Findings
     requires { ⌜ Surveying g (now table) 0 (now list) (now notes) ⌝ }
-    ensures { λ r. ⌜ r ≡ (nodesSound g (view g (now (table .entry))) && itemsSound g (view g (now (table .entry))) phase) ⌝ }
+    ensures { λ r. ⌜ Found g (view g (now (table .entry))) phase r ⌝ }
 {
     let rows = rows_sound(table, g, list, notes);
     let kinds = kinds_sound(notes, g.items, phase);
-    rows & kinds
+    Findings {
+        sound: rows & kinds.sound,
+        dirty: kinds.dirty,
+    }
 }
 
 // Of at most 16 items.
-fn survey_16(table: &[u64], g: Geometry, phase: u64) -> bool
+fn survey_16(table: &[u64], g: Geometry, phase: u64) -> Findings
     requires { ⌜ (g .items ≤ 16) × Surveyable g (now table) ⌝ }
-    ensures { λ r. ⌜ r ≡ (nodesSound g (view g (now (table .entry))) && itemsSound g (view g (now (table .entry))) phase) ⌝ }
+    ensures { λ r. ⌜ Found g (view g (now (table .entry))) phase r ⌝ }
 {
     let mut list: [u16; 16] = [0; 16];
     let mut notes: [u64; 48] = [0; 48];
@@ -247,9 +277,9 @@ fn survey_16(table: &[u64], g: Geometry, phase: u64) -> bool
 }
 
 // Of at most 64 items.
-fn survey_64(table: &[u64], g: Geometry, phase: u64) -> bool
+fn survey_64(table: &[u64], g: Geometry, phase: u64) -> Findings
     requires { ⌜ (g .items ≤ 64) × Surveyable g (now table) ⌝ }
-    ensures { λ r. ⌜ r ≡ (nodesSound g (view g (now (table .entry))) && itemsSound g (view g (now (table .entry))) phase) ⌝ }
+    ensures { λ r. ⌜ Found g (view g (now (table .entry))) phase r ⌝ }
 {
     let mut list: [u16; 64] = [0; 64];
     let mut notes: [u64; 192] = [0; 192];
@@ -257,19 +287,19 @@ fn survey_64(table: &[u64], g: Geometry, phase: u64) -> bool
 }
 
 // Of at most 256 items.
-fn survey_256(table: &[u64], g: Geometry, phase: u64) -> bool
+fn survey_256(table: &[u64], g: Geometry, phase: u64) -> Findings
     requires { ⌜ Surveyable g (now table) ⌝ }
-    ensures { λ r. ⌜ r ≡ (nodesSound g (view g (now (table .entry))) && itemsSound g (view g (now (table .entry))) phase) ⌝ }
+    ensures { λ r. ⌜ Found g (view g (now (table .entry))) phase r ⌝ }
 {
     let mut list: [u16; 256] = [0; 256];
     let mut notes: [u64; 768] = [0; 768];
     survey_in(table, g, phase, &mut list, &mut notes)
 }
 
-// Whether nodes and items are sound. The list and the notes are as long as the items ask for.
-pub(crate) fn survey(table: &[u64], g: Geometry, phase: u64) -> bool
+// Whether nodes and items are sound, and if they are, the lowest dirty item that is not created. The list and the notes are as long as the items ask for.
+pub(crate) fn survey(table: &[u64], g: Geometry, phase: u64) -> Findings
     requires { ⌜ Surveyable g (now table) ⌝ }
-    ensures { λ r. ⌜ r ≡ (nodesSound g (view g (now (table .entry))) && itemsSound g (view g (now (table .entry))) phase) ⌝ }
+    ensures { λ r. ⌜ Found g (view g (now (table .entry))) phase r ⌝ }
 {
     let items = g.items;
     if items <= 16 {

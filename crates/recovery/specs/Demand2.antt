@@ -21,7 +21,8 @@ use Rattle.homes.specs.Places.{codeOf, sharedIn}
 use Rattle.homes.specs.Home.{fits}
 use Rattle.calls.specs.Read.{readOf}
 use Rattle.homes.specs.Evict.{evictOf}
-use Rattle.checkpoints.specs.Checkpoint.{openAdmission, ownerOf, dirtyItem}
+use Rattle.entries.specs.Dirty.{ownerOf, dirtyItem}
+use Rattle.checkpoints.specs.Checkpoint.{openAdmission}
 use Rattle.checkpoints.specs.Create.{sharerOf, createOf}
 use Rattle.counting.specs.Exists.{exists}
 use Rattle.recovery.specs.Memory.{Memory, valueIn, savedIn}

@@ -25,7 +25,8 @@ use Rattle.homes.specs.declared.places.Place.the-variants.{Current}
 use Rattle.homes.specs.Plans.{planAdmitted, planChecked, planBy}
 use Rattle.homes.specs.Admission.{admissionOf, frameFull, frameAdmission}
 use Rattle.calls.specs.Transitions.{changeTo}
-use Rattle.checkpoints.specs.Checkpoint.{commonMark, isOpen, openAdmission, ownsAt, ownerOf, dirty, dirtyItem, liveChanges, entriesBefore}
+use Rattle.entries.specs.Dirty.{ownsAt, ownerOf, dirty, dirtyItem}
+use Rattle.checkpoints.specs.Checkpoint.{commonMark, isOpen, openAdmission, liveChanges, entriesBefore}
 use Rattle.checkpoints.specs.Closing.{commitChange, closeChange}
 use Rattle.homes.specs.Home.{sharedAt, sharedItem, hasFrame, hasRoom, placeFits, fits, nodeAfter, fitsAfter, passedOver, homeOf, droppedItem, currentLeft, arrivalOf, dropStores, arrivalChanges, homeStoresBy, homeStores}
 use Rattle.calls.specs.Read.{servesAt, serverOf, fetchFrom, readStores, readValue}

@@ -22,7 +22,8 @@ use Rattle.homes.specs.Home.{fits, noHome}
 use Rattle.homes.specs.HomeLaws.{no-home-none, none-no-home}
 use Rattle.homes.specs.Plans.{planAdmitted, planChecked, planBy, plan-admitted}
 use Rattle.homes.specs.Evict.{dropped, placeAdmission, evictStores, evictOf}
-use Rattle.checkpoints.specs.Checkpoint.{openAdmission, ownerOf, dirtyItem}
+use Rattle.entries.specs.Dirty.{ownerOf, dirtyItem}
+use Rattle.checkpoints.specs.Checkpoint.{openAdmission}
 use Rattle.checkpoints.specs.Create.{sharerOf, hasSharer, noPartner, createItem, createPlan, createOf}
 use Rattle.checkpoints.specs.CreateCode.{itemPlan, next-plan, next-owned}
 use Rattle.counting.specs.Exists.{exists-not, not-exists}

@@ -24,7 +24,8 @@ use Rattle.homes.specs.Admission.{admissionOf, frameFull, frameAdmission}
 use Rattle.homes.specs.Places.{codeIn}
 use Rattle.homes.specs.Home.{noHome}
 use Rattle.homes.specs.Evict.{dropped, placeAdmission, evictAdmission, evictStores}
-use Rattle.checkpoints.specs.Checkpoint.{commonMark, isOpen, openAdmission, noneDirty, dirtyItem}
+use Rattle.entries.specs.Dirty.{noneDirty, dirtyItem}
+use Rattle.checkpoints.specs.Checkpoint.{commonMark, isOpen, openAdmission}
 use Rattle.checkpoints.specs.Open.{startAdmission, openStores}
 use Rattle.checkpoints.specs.Create.{createStores, noPartner, createPlan}
 use Rattle.checkpoints.specs.Commit.{createdAdmission, commitAdmission, commitStores}

@@ -22,7 +22,8 @@ use Rattle.checkpoints.specs.Open.{startAdmission, openStores, creatingMark}
 use Rattle.checkpoints.specs.Create.{noPartner, createStores, createPlan, createOf}
 use Rattle.checkpoints.specs.Commit.{commitAdmission, commitStores}
 use Rattle.checkpoints.specs.Abandon.{abandonStores}
-use Rattle.checkpoints.specs.Checkpoint.{openAdmission, ownerOf, dirtyItem, noneDirty}
+use Rattle.entries.specs.Dirty.{ownerOf, dirtyItem, noneDirty}
+use Rattle.checkpoints.specs.Checkpoint.{openAdmission}
 use Rattle.recovery.specs.declared.lost.Lost.{Lost}
 use Rattle.recovery.specs.declared.call.Call.{Call}
 use Rattle.recovery.specs.declared.call.Call.the-variants.{Format, Check, Stretch, Read, Write, Evict, Open, Create, Commit, Abandon, Recover}

@@ -4,7 +4,7 @@ use mathlib.Core.Path.{_≡_, sym, _∙_}
 use borrow.Author.Needs.{needs}
 use Rattle.counting.specs.First.{first, first-starts, first-turns, first-found, first-ends}
 use Rattle.table.specs.View.{view}
-use Rattle.checkpoints.specs.Checkpoint.{ownsAt, ownerOf}
+use Rattle.entries.specs.Dirty.{ownsAt, ownerOf}
 use Rattle.checkpoints.proofs.checkpoint.owner_of.Statement.{statement}
 use Rattle.checkpoints.proofs.checkpoint.owner_of.Tie as tie
 

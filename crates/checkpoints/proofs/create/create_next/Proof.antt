@@ -6,21 +6,13 @@ use Rattle.checkpoints.proofs.create.create_next.Statement.{statement}
 use Rattle.checkpoints.proofs.create.create_next.Tie as tie
 
 create-item-requires : tie.Need-create-item-requires
-create-item-requires c κs = next-owned _ _ (c .before .before .dirty-item .ensures) (c .before .if1 .taken)
+create-item-requires c κs = next-owned _ _ (c .before .before .before .pre) (c .before .if1 .taken)
 
 returns : tie.Need-returns
 returns c = search next-meets
 
 returns-2 : tie.Need-returns-2
-returns-2 c = meets-nothing _ _ (none-left _ _ (c .before .dirty-item .ensures) (c .if1 .left))
+returns-2 c = meets-nothing _ _ (none-left _ _ (c .before .before .pre) (c .if1 .left))
 
 pub create-next-spec : {M : Type 1} → statement M
-create-next-spec =
-    tie.close
-    (tie.spec
-    (λ c κs. search needs)
-    create-item-requires
-    (λ c. search needs)
-    returns
-    (λ c. search needs)
-    returns-2)
+create-next-spec = tie.close (tie.spec create-item-requires (λ c. search needs) returns returns-2)

@@ -1,14 +1,15 @@
 -- `table_sound` meets its contract: all tests together. Assumes nothing.
-use Rattle.entries.specs.MarksLoop.{marked-sound}
+use Rattle.entries.specs.SurveyDirty.{table-found}
 use borrow.Author.Needs.{needs}
 use Rattle.entries.proofs.sound.table_sound.Statement.{statement}
 use Rattle.entries.proofs.sound.table_sound.Tie as tie
 
 returns : tie.Need-returns
 returns c =
-    let p = c .before in
+    let s = c .before in
+    let p = s .before in
     let a = p .before in
-    marked-sound _ _ _ (a .before .marks-met .ensures) (a .agree .ensures) (rw (p .phase-of .ensures) at (c .survey .ensures))
+    table-found _ _ _ (a .before .marks-met .ensures) (a .agree .ensures) (rw (p .phase-of .ensures) at (s .survey .ensures))
 
 pub table-sound-spec : {M : Type 1} → statement M
 table-sound-spec =

@@ -1,25 +1,31 @@
--- `kinds_sound` meets its contract: the loop has tested the items before `item`. Assumes nothing.
-use Prim.Native.Nat.{_≤_, _-_, _*_, _%_, _^_}
-use mathlib.Core.Path.{_≡_}
+-- `kinds_sound` meets its contract: the loop has tested the items from `item` on. Assumes nothing.
+use Prim.Native.Nat.{_≤_, _*_}
+use mathlib.Core.Path.{_≡_, refl}
 use native.Mathlib.Omega.{arith}
-use lib.ListN.{getD}
 use borrow.Author.Needs.{needs}
-use Rattle.counting.specs.Counting.{every, every-none, every-next, every-ends}
-use Rattle.entries.specs.Survey.{kindTest}
+use Rattle.entries.specs.SurveyDirty.{KindsFrom, kinds-start, kinds-turn, kinds-end}
+use Rattle.entries.specs.SurveyNoting.{chosen-first, chosen-second}
 use Rattle.entries.proofs.survey.kinds_sound.Statement.{statement}
 use Rattle.entries.proofs.survey.kinds_sound.Tie as tie
 
 abbrev Inv-loop : tie.InvT-loop
-Inv-loop notes items phase ok₀ at₀ item₀ ok at item =
-    (item ≤ items) × ((at ≡ 3 * item) × (ok ≡ every (λ b. kindTest phase (getD notes (3 * b) 0 % 2 ^ 45)) item))
+Inv-loop notes items phase created sound₀ dirty₀ at₀ item₀ sound dirty at item =
+    (item ≤ items) × ((at ≡ 3 * item) × KindsFrom notes items phase item sound dirty)
 
 abbrev μ-loop : tie.MeasureT-loop
-μ-loop notes items phase ok₀ at₀ item₀ ok at item = items - item
+μ-loop notes items phase created sound₀ dirty₀ at₀ item₀ sound dirty at item = item
 
 loop-again : tie.Need-loop-again Inv-loop μ-loop
 loop-again c =
-    let l = c .before .before .before in
-    (search needs, (omega arith, every-next _ _ (l .loop .inv .1 .1) (rw (l .loop .inv .1 .0) at (c .kind-sound .ensures))))
+    let l = c .before .before .before .before in
+    let at = l .loop .inv .1 .0 in
+    (search needs, (omega arith, kinds-turn _ _ _ (l .before .created-tally .ensures) (l .loop .inv .1 .1) (omega (arith, c .before .before .before .loop-test .taken)) (omega arith) (c .before .kind-sound .ensures) (chosen-first _ _ _ (c .if1 .taken) refl)))
+
+loop-again-2 : tie.Need-loop-again-2 Inv-loop μ-loop
+loop-again-2 c =
+    let l = c .before .before .before .before in
+    let at = l .loop .inv .1 .0 in
+    (search needs, (omega arith, kinds-turn _ _ _ (l .before .created-tally .ensures) (l .loop .inv .1 .1) (omega (arith, c .before .before .before .loop-test .taken)) (omega arith) (c .before .kind-sound .ensures) (chosen-second _ _ _ (c .if1 .left) refl)))
 
 pub kinds-sound-spec : {M : Type 1} → statement M
 kinds-sound-spec =
@@ -27,12 +33,16 @@ kinds-sound-spec =
     (tie.spec
     Inv-loop
     μ-loop
-    (λ c. (search needs, (search needs, every-none _)))
+    (λ c κs. search needs)
+    (λ c. search needs)
+    (λ c. (search needs, (search needs, kinds-start _ _ _)))
+    (λ c. search needs)
+    (λ c. search needs)
     (λ c. search needs)
     (λ c. search needs)
     (λ c κs. search needs)
     (λ c. search needs)
-    (λ c. search needs)
-    (λ c. search needs)
     loop-again
-    (λ c. every-ends _ (c .before .loop .inv .0) (c .loop-test .left) (c .before .loop .inv .1 .1)))
+    (λ c. search needs)
+    loop-again-2
+    (λ c. kinds-end _ _ _ (c .loop-test .left) (c .before .loop .inv .1 .1)))

@@ -1,6 +1,6 @@
 -- `survey_in` meets its contract: rows and kinds together. Assumes nothing.
 use borrow.Author.Needs.{needs}
-use Rattle.entries.specs.SurveySound.{survey-told}
+use Rattle.entries.specs.SurveyDirty.{survey-found}
 use Rattle.entries.proofs.survey.survey_in.Statement.{statement}
 use Rattle.entries.proofs.survey.survey_in.Tie as tie
 
@@ -13,5 +13,6 @@ survey-in-spec =
     (λ c. search needs)
     (λ c. search needs)
     (λ c.
-    let r = c .before .before .before .before .before .before in
-    survey-told _ _ (r .before .before .before .before .before .before .pre .table) (r .rows-sound .ensures) (c .kinds-sound .ensures)))
+    let k = c .before in
+    let r = k .before .before .before .before .before .before in
+    survey-found _ _ (r .before .before .before .before .before .before .pre .table) (r .rows-sound .ensures) (k .kinds-sound .ensures)))
