@@ -4,7 +4,7 @@ pub mod Dirty
 pub mod Tally
 pub mod Items
 pub mod Sound
-pub mod NodePass
+pub mod Row
 pub mod RowFrames
 pub mod Survey
 pub mod SurveyRow

@@ -1,5 +1,5 @@
 -- The frames of a row of entries, told by the six top bits of each state word.
-use Prim.Native.Nat.{ℕ, _+_, _*_, _<_, _≤_}
+use Prim.Native.Nat.{ℕ, _+_, _*_, _/_, _%_, _<_, _≤_}
 use mathlib.Core.Path.{_≡_, refl, ap, _∙_}
 use mathlib.Core.Bool.{Bool, true, _&&_}
 use mathlib.Core.List.{List, [], _∷_}
@@ -11,9 +11,10 @@ use Rattle.counting.specs.Tests.{both}
 use Rattle.counting.specs.Counting.{every, every-at, sum, sum-none, sum-next, sum-ext}
 use Rattle.table.specs.declared.geometry.Geometry.{Geometry}
 use Rattle.table.specs.Geometry.{Placed}
+use Rattle.table.specs.Words.{currentOf, keptOf}
 use Rattle.table.specs.View.{view}
-use Rattle.entries.specs.Frames.{setsOf, set-there, framesIn, frames-here, used}
-use Rattle.entries.specs.NodePass.{topOf, codeFrames, quarter, rowState, row-read, row-state}
+use Rattle.entries.specs.Frames.{setsOf, set-there, frameOf, frame-le, framesIn, frames-here, used}
+use Rattle.entries.specs.Row.{topOf, quarter, rowState, row-read, row-state}
 
 -- ---- an entry
 
@@ -36,6 +37,14 @@ frameDigits =
     49 ∷ 50 ∷ 50 ∷ 50 ∷
     49 ∷ 50 ∷ 50 ∷ 50 ∷
     49 ∷ 50 ∷ 50 ∷ 50 ∷ []
+
+-- the frames of an entry by its six top bits
+abbrev codeFrames : ℕ → ℕ
+codeFrames i = frameOf (i / 4) + frameOf (i % 4)
+
+pub frames-two : (w : ℕ) → framesIn w ≤ 2
+unfolding framesIn
+frames-two w = omega (arith, frame-le (currentOf w), frame-le (keptOf w))
 
 abbrev digitRule : ℕ → Bool
 digitRule i = eqb (getD frameDigits i 0) (48 + codeFrames i)

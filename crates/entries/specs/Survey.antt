@@ -9,11 +9,9 @@ use Rattle.counting.specs.Values.{valuesOf}
 use Rattle.counting.specs.declared.values.Values.{Values}
 use Rattle.table.specs.View.{View, live}
 use Rattle.entries.specs.Frames.{frameOf}
+use Rattle.entries.specs.Row.{topOf}
 
 -- ---- an entry by the six top bits of its state word: 4 for the current place, 2 for the kept place
-
-abbrev pub topOf : ℕ → ℕ
-topOf w = w / 2 ^ 58
 
 -- the codes are of good form
 unfoldable pub codesForm : ℕ → Bool

@@ -12,7 +12,7 @@ use lib.Seq.{getD-set-same, getD-set-other}
 use borrow.Author.Tests.{eq-eqb, ne-eqb, ltb-true, ltb-false}
 use Rattle.counting.specs.Tests.{by-cases}
 use Rattle.counting.specs.Counting.{count, count-none, count-next, below, one, Counted}
-use Rattle.entries.specs.NodePass.{rowState, row-read}
+use Rattle.entries.specs.Row.{rowState, row-read}
 use Rattle.entries.specs.SurveyRow.{occupies, Gathered}
 
 -- one more

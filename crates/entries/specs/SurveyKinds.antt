@@ -12,7 +12,7 @@ use Rattle.table.specs.View.{View, live, current, kept}
 use Rattle.entries.specs.Tally.{Counts, has, hasKept, copy, keep, countsOf}
 use Rattle.entries.specs.Items.{itemTest}
 use Rattle.entries.specs.Unread.{values-ext}
-use Rattle.entries.specs.NodePass.{quarter}
+use Rattle.entries.specs.Row.{quarter}
 use Rattle.entries.specs.Survey.{codesForm, holds, keeps, holdsAt, keepsAt, topAt, liveTop, weightAt, heldValues, keptValues, kindTest}
 use Rattle.entries.specs.SurveyFields.{form-codes, count-seen, keeps-count, tally-fields}
 

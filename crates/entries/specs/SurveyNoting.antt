@@ -16,8 +16,8 @@ use Rattle.table.specs.declared.geometry.Geometry.{Geometry}
 use Rattle.table.specs.Geometry.{entryAt, Placed, entry-within, product}
 use Rattle.table.specs.View.{View, view, live, entryIn, entry-read}
 use Rattle.entries.specs.declared.survey.Turn.{Turn}
-use Rattle.entries.specs.NodePass.{rowState, row-state}
-use Rattle.entries.specs.Survey.{topOf, topAt, weightOf, Noted, agreesAt, lowForm}
+use Rattle.entries.specs.Row.{topOf, rowState, row-state}
+use Rattle.entries.specs.Survey.{topAt, weightOf, Noted, agreesAt, lowForm}
 use Rattle.entries.specs.SurveyRow.{occupies, Gathered, firstWith, keptWith, sameWith, sameKept, EntryNoted, NotedAll, RowReady, RowNoted}
 use Rattle.entries.specs.SurveyStep.{noted-blank, noted-room, noted-next, noted-same, agrees-blank, frames-blank}
 use Rattle.entries.specs.SurveyGather.{next-occupied, all-blank, count-occupied}

@@ -10,7 +10,8 @@ use Rattle.table.specs.declared.geometry.Geometry.{Geometry}
 use Rattle.table.specs.Geometry.{wordsOf}
 use Rattle.table.specs.View.{View, view, live}
 use Rattle.entries.specs.declared.survey.Turn.{Turn}
-use Rattle.entries.specs.Survey.{topOf, topAt, weightOf, Noted, agreesAt, lowForm}
+use Rattle.entries.specs.Survey.{topAt, weightOf, Noted, agreesAt, lowForm}
+use Rattle.entries.specs.Row.{topOf}
 
 -- ---- the entries of a row that hold something
 

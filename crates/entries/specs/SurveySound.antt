@@ -18,9 +18,9 @@ use Rattle.counting.specs.Values.{valuesOf}
 use Rattle.entries.specs.declared.survey.Turn.{Turn}
 use Rattle.entries.specs.Frames.{setsOf, setFrames, set-there, frame-le, framesIn, frames-here, framesAt, used, framesFit}
 use Rattle.entries.specs.Sound.{statesForm, nodeSound, nodesSound, itemSound, itemsSound}
-use Rattle.entries.specs.Survey.{topOf, topAt, codesForm, holds, holdsAt, keepsAt, framesBy, weightOf, weightAt, heldValues, keptValues, Noted, agreesAt, lowForm, kindTest}
+use Rattle.entries.specs.Survey.{topAt, codesForm, holds, holdsAt, keepsAt, framesBy, weightOf, weightAt, heldValues, keptValues, Noted, agreesAt, lowForm, kindTest}
 use Rattle.entries.specs.SurveyRow.{NotedAll, RowReady, RowNoted}
-use Rattle.entries.specs.NodePass.{one-set, mark-there}
+use Rattle.entries.specs.Row.{topOf, one-set, mark-there}
 use Rattle.entries.specs.SurveyFields.{weight-frames}
 use Rattle.entries.specs.SurveyStep.{noted-dead, agrees-dead, agrees-all}
 use Rattle.entries.specs.SurveyKinds.{kind-tells}

@@ -103,7 +103,7 @@ module _ (forward : Bool) (v : View) (n : ℕ) {firsts seens firsts′ seens′ 
         → x ≡ firstMet (not (eqb (c .number) 0)) (getD seens′ (getD l k 0) 0) (getD firsts′ (getD l k 0) 0) (c .value)
         → y ≡ seenMet (not (eqb (c .number) 0)) (getD seens′ (getD l k 0) 0)
         → NotedTo forward v n firsts seens (reached l (k + 1)) (set firsts′ (getD l k 0) x) (set seens′ (getD l k 0) y)
-          (agree && agreesMet (not (eqb (c .number) 0)) (getD seens′ (getD l k 0) 0) (getD firsts′ (getD l k 0) 0) (c .value))
+        (agree && agreesMet (not (eqb (c .number) 0)) (getD seens′ (getD l k 0) 0) (getD firsts′ (getD l k 0) 0) (c .value))
     noted-turn q {c} h {x} {y} e f =
         let p = noted-here q in
         let j = getD l k 0 in

@@ -193,7 +193,16 @@ pub(crate) fn items_fit(table: &[u64], g: Geometry, lost: Lost, forward: bool) -
     let mut equal = true;
     let mut node: u8 = 0;
     while node < nodes {
-        let agree = note_node(table, g, lost, forward, node, &mut list, &mut firsts, &mut seens);
+        let agree = note_node(
+            table,
+            g,
+            lost,
+            forward,
+            node,
+            &mut list,
+            &mut firsts,
+            &mut seens,
+        );
         equal = equal & agree;
         node += 1;
     }
