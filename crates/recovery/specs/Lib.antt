@@ -32,6 +32,7 @@ pub mod NumberingCode
 pub mod Followed
 pub mod PartnersCounts
 pub mod PartnersCode
+pub mod PartnersSkip
 pub mod ClosingMarksCode
 pub mod RecoverPlan
 pub mod RecoverStages

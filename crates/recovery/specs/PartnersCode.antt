@@ -275,7 +275,7 @@ module _ (g : Geometry) (lost : Lost) (b n : ℕ) {left p : ℕ} {t s : List ℕ
 -- ---- one item
 
 -- a single copy has a holder
-holder-there : (g : Geometry) (w : View) (b : ℕ) → count (copy w b) (g .nodes) ≡ 1 → holderOf g w b < g .nodes
+pub holder-there : (g : Geometry) (w : View) (b : ℕ) → count (copy w b) (g .nodes) ≡ 1 → holderOf g w b < g .nodes
 unfolding holderOf
 holder-there g w b e =
     let o = only (g .nodes) (copy w b) e in

@@ -114,12 +114,12 @@ has-share w b code n =
     (λ e. rw e (omega arith))
 
 module _ (w : View) (b : ℕ) where
-  tally-shares : (n : ℕ) → sum (weightIn w b) n ≡ sum (shareIn w b 4) n + 1024 * sum (shareIn w b 5) n
+  pub tally-shares : (n : ℕ) → sum (weightIn w b) n ≡ sum (shareIn w b 4) n + 1024 * sum (shareIn w b 5) n
   unfolding sum
   tally-shares zero = refl
   tally-shares (suc n) = omega (arith, tally-shares n, weight-shares w b n)
 
-  shares-le : (code n : ℕ) → sum (shareIn w b code) n ≤ 2 * n
+  pub shares-le : (code n : ℕ) → sum (shareIn w b code) n ≤ 2 * n
   unfolding sum
   shares-le code zero = omega arith
   shares-le code (suc n) = omega (arith, shares-le code n, share-in-le w b code n)

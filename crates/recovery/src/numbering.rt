@@ -209,7 +209,7 @@ fn tally_node(
 }
 
 // The tallies of all items, from zeros.
-fn tally(table: &[u64], g: Geometry, lost: Lost, tallies: &mut [u64])
+pub(crate) fn tally(table: &[u64], g: Geometry, lost: Lost, tallies: &mut [u64])
     requires { ⌜ (wordsOf g ≤ length (now table)) × ((g .items ≤ 256) × Tallied g (survivors lost (view g (now table))) 0 (now tallies)) ⌝ }
     ensures { λ _. ⌜ Tallied g (survivors lost (view g (now (table .entry)))) (g .nodes) (now (tallies .exit)) ⌝ }
 {

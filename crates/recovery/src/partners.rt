@@ -16,7 +16,10 @@ ghost use Rattle.recovery.specs.Rolling.{sharedCK};
 ghost use Rattle.recovery.specs.Partners.{holderOf, partnerChanges, partnerFrom, partnerStores, partnersStores};
 ghost use Rattle.recovery.specs.PartnersCounts.{usedWith};
 ghost use Rattle.recovery.specs.PartnersCode.{takesBy, Found, UsedTold, Filled, Ready, Turned};
+ghost use Rattle.recovery.specs.PartnersSkip.{Passable};
+ghost use Rattle.recovery.specs.Tallies.{Tallied};
 use crate::lost::Lost;
+use crate::numbering;
 use crate::rows;
 use crate::survivors;
 use entries::frames;
@@ -225,16 +228,43 @@ fn partner_item(
     left
 }
 
+// An item's turn, by its tally at the start of the stage: with a holder of each number it has no single copy.
+fn partner_turn(
+    table: &mut [u64],
+    left: u64,
+    g: Geometry,
+    lost: Lost,
+    scratch: &mut [u64],
+    item: u16,
+    tally: u64,
+) -> u64
+    requires { ⌜ Passable g lost left (now table) (now scratch) item tally ⌝ }
+    ensures { λ r. ⌜ Turned g lost (partnerStores g item) left (now (table .entry)) (now (table .exit)) (now (scratch .entry)) (now (scratch .exit)) r ⌝ }
+{
+    if (tally % 1024 != 0) & (tally / 1024 != 0) {
+        return left;
+    }
+    partner_item(table, left, g, lost, scratch, item)
+}
+
 // The items, ascending.
-fn partner_items(table: &mut [u64], left: u64, g: Geometry, lost: Lost, scratch: &mut [u64]) -> u64
-    requires { ⌜ Ready g lost left (now table) (now scratch) ⌝ }
+fn partner_items(
+    table: &mut [u64],
+    left: u64,
+    g: Geometry,
+    lost: Lost,
+    scratch: &mut [u64],
+    tallies: &[u64],
+) -> u64
+    requires { ⌜ Ready g lost left (now table) (now scratch) × Tallied g (survivors lost (view g (now table))) (g .nodes) (now tallies) ⌝ }
     ensures { λ r. ⌜ Turned g lost (partnersStores g) left (now (table .entry)) (now (table .exit)) (now (scratch .entry)) (now (scratch .exit)) r ⌝ }
 {
     let items = g.items;
     let mut left = left;
     let mut item: u16 = 0;
     while item < items {
-        left = partner_item(table, left, g, lost, scratch, item);
+        let tally = stores::word(tallies, item as usize);
+        left = partner_turn(table, left, g, lost, scratch, item, tally);
         item += 1;
     }
     left
@@ -251,6 +281,8 @@ pub(crate) fn partners(
     requires { ⌜ (wordsOf g ≤ length (now table)) × ((g .nodes ≤ length (now scratch)) × (g .items ≤ 256)) ⌝ }
     ensures { λ r. ⌜ Turned g lost (partnersStores g) left (now (table .entry)) (now (table .exit)) (now (scratch .entry)) (now (scratch .exit)) r ⌝ }
 {
+    let mut tallies: [u64; 256] = [0; 256];
+    numbering::tally(table, g, lost, &mut tallies);
     fill_used(table, g, lost, scratch);
-    partner_items(table, left, g, lost, scratch)
+    partner_items(table, left, g, lost, scratch, &tallies)
 }

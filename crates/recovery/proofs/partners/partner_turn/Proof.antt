@@ -1,0 +1,15 @@
+-- `partner_turn` meets its contract: no single copy, or the item's turn. Assumes nothing.
+use Rattle.recovery.specs.PartnersSkip.{turn-skipped}
+use borrow.Author.Needs.{needs}
+use Rattle.recovery.proofs.partners.partner_turn.Statement.{statement}
+use Rattle.recovery.proofs.partners.partner_turn.Tie as tie
+
+pub partner-turn-spec : {M : Type 1} → statement M
+partner-turn-spec =
+    tie.close
+    (tie.spec
+    (λ c. let f = c .before .before .before in turn-skipped (f .args .g) (f .args .lost) (f .pre) (c .if1 .taken))
+    (λ c κs. search needs)
+    (λ c. search needs)
+    (λ c. search needs)
+    (λ c. search needs))

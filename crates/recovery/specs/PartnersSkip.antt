@@ -1,0 +1,172 @@
+-- An item's turn in the partner stage finds its copies as they were at the stage's start; one with a holder of each number has no single copy.
+use Prim.Native.Nat.{ℕ, zero, suc, _+_, _-_, _*_, _/_, _%_, _≤_, _<_}
+use mathlib.Core.Path.{_≡_, refl, sym, ap, _∙_}
+use mathlib.Core.Logic.{_≢_}
+use mathlib.Core.Bool.{Bool, true, false, not, cond, _&&_}
+use mathlib.Core.List.{List, [], _∷_, map}
+use native.Mathlib.Omega.{arith}
+use native.Mathlib.Decide.{ℕ-discrete}
+use lib.Dec.{eqb}
+use lib.ListN.{length, getD}
+use borrow.Author.Tests.{lt-ltb, eqb-true, eq-eqb, ne-eqb, not-true}
+use Rattle.counting.specs.Tests.{and-both, by-cases, both, no-both}
+use Rattle.counting.specs.Counting.{count, count-ext, one, sum}
+use Rattle.counting.specs.First.{first, first-le}
+use Rattle.table.specs.declared.geometry.Geometry.{Geometry}
+use Rattle.table.specs.Geometry.{wordsOf, entryAt, markAt, entries-apart}
+use Rattle.table.specs.Stores.{Store, Change, stateTo, valueTo, keptTo, sizeStore, markStore, entryStore, Stored, placeOf, partOf, after, after-off, All, none, more, all-then}
+use Rattle.table.specs.View.{Entry, View, view, live, current, kept, updates, entryIn, mark-read, entry-read}
+use Rattle.entries.specs.Tally.{copy, has}
+use Rattle.homes.specs.Home.{nodeAfter}
+use Rattle.homes.specs.HomeCode.{after-below}
+use Rattle.recovery.specs.declared.lost.Lost.{Lost}
+use Rattle.recovery.specs.Survivors.{survivors}
+use Rattle.recovery.specs.SurvivorsCode.{survivor-entry}
+use Rattle.recovery.specs.RollingCode.{survivor-marks}
+use Rattle.recovery.specs.Partners.{single, holderOf, takesAfter, partnerOf, partnerChanges, partnerFrom, partnerStores, staged}
+use Rattle.recovery.specs.PartnersCode.{Ready, Turned, holder-there, item-other, items-ready}
+use Rattle.recovery.specs.Tallies.{Tallied, weightIn, shareIn, share, tally-shares, shares-le}
+
+-- ---- the stores of the items before i
+
+abbrev Before : Geometry → ℕ → Store → Type 0
+Before g i (sizeStore h) = ⊥
+Before g i (markStore n w) = ⊥
+Before g i (entryStore n b c) = (n < g .nodes) × ((b < g .items) × (b < i))
+
+before-changes : (g : Geometry) (i n b : ℕ) (cs : List Change) → n < g .nodes → b < g .items → b < i → All (Before g i) (map (entryStore n b) cs)
+before-changes g i n b [] hn hb h = none
+before-changes g i n b (c ∷ cs) hn hb h = more {s = entryStore n b c} (hn, (hb, h)) (before-changes g i n b cs hn hb h)
+
+before-partner : (g : Geometry) (i b : ℕ) (w : View) → b < g .items → b < i → All (Before g i) (partnerStores g b w)
+unfolding partnerStores single partnerFrom partnerOf
+before-partner g i b w hb hi = go (eqb (count (copy w b) (g .nodes)) 1) refl
+  where
+    stores : (n : ℕ) → n < g .nodes → All (Before g i) (partnerFrom g w b n)
+    stores n h = at (eqb (partnerOf g w b n) n)
+      where
+        below : partnerOf g w b n < g .nodes
+        below = after-below g n h (first (takesAfter g w b n) (g .nodes - 1)) (omega (arith, first-le (takesAfter g w b n) (g .nodes - 1)))
+
+        at : (q : Bool) → All (Before g i) (cond q [] (map (entryStore (partnerOf g w b n) b) (partnerChanges (w .entry n b))))
+        at true = none
+        at false = before-changes g i (partnerOf g w b n) b (partnerChanges (w .entry n b)) below hb hi
+
+    go : (q : Bool) → eqb (count (copy w b) (g .nodes)) 1 ≡ q → All (Before g i) (cond q (partnerFrom g w b (holderOf g w b)) [])
+    go true e = stores (holderOf g w b) (holder-there g w b (eqb-true _ 1 e))
+    go false e = none
+
+before-staged : (g : Geometry) (i k : ℕ) (w : View) → k ≤ g .items → k ≤ i → All (Before g i) (staged (partnerStores g) k w)
+unfolding staged
+before-staged g i zero w h l = none
+before-staged g i (suc k) w h l =
+    all-then (before-staged g i k w (omega arith) (omega arith))
+    (before-partner g i k (updates (staged (partnerStores g) k w) w) (omega arith) (omega arith))
+
+part-small : (c : Change) → partOf c < 3
+part-small (stateTo c k) = omega arith
+part-small (valueTo x) = omega arith
+part-small (keptTo x) = omega arith
+
+entry-off : (g : Geometry) (i n b k : ℕ) {ss : List Store} → b < g .items → i ≤ b → k < 3 → All (Before g i) ss → All (λ s. entryAt g n b + k ≢ placeOf g s) ss
+entry-off g i n b k hb l h none = none
+entry-off g i n b k hb l h (more {s = sizeStore x} p a) = absurd p
+entry-off g i n b k hb l h (more {s = markStore m w} p a) = absurd p
+entry-off g i n b k hb l h (more {s = entryStore m d c} p a) =
+    more {s = entryStore m d c} (entries-apart g n b m d k (partOf c) h (part-small c) hb (p .1 .0) (λ _ (e : b ≡ d). omega (arith, p .1 .1)))
+    (entry-off g i n b k hb l h a)
+
+mark-off : (g : Geometry) (i n : ℕ) {ss : List Store} → n < g .nodes → All (Before g i) ss → All (λ s. markAt n ≢ placeOf g s) ss
+mark-off g i n hn none = none
+mark-off g i n hn (more {s = sizeStore x} p a) = absurd p
+mark-off g i n hn (more {s = markStore m w} p a) = absurd p
+mark-off g i n hn (more {s = entryStore m d c} p a) =
+    more {s = entryStore m d c} (λ (e : 1 + n ≡ 1 + g .nodes + 3 * (m * g .items + d) + partOf c). omega arith) (mark-off g i n hn a)
+
+module _ (g : Geometry) (i : ℕ) {ss : List Store} {left left′ : ℕ} {t t′ : List ℕ} (a : All (Before g i) ss) (s : Stored g left ss t t′ left′) where
+  entry-stays : (n b : ℕ) → n < g .nodes → b < g .items → i ≤ b → view g t′ .entry n b ≡ view g t .entry n b
+  entry-stays n b hn hb l =
+      entry-read g t′ n b (and-both (lt-ltb _ _ hn) (lt-ltb _ _ hb))
+      ∙ rw (word 0 (omega arith), word 1 (omega arith), word 2 (omega arith)) (sym (entry-read g t n b (and-both (lt-ltb _ _ hn) (lt-ltb _ _ hb))))
+    where
+      word : (k : ℕ) → k < 3 → getD t′ (entryAt g n b + k) 0 ≡ getD t (entryAt g n b + k) 0
+      word k h = ap (λ u. getD u (entryAt g n b + k) 0) (s .table) ∙ after-off g (entryAt g n b + k) left t (entry-off g i n b k hb l h a)
+
+  mark-stays : (n : ℕ) → n < g .nodes → view g t′ .mark n ≡ view g t .mark n
+  mark-stays n hn =
+      mark-read g t n hn (sym (mark-read g t′ n hn refl) ∙ ap (λ u. getD u (markAt n) 0) (s .table) ∙ after-off g (markAt n) left t (mark-off g i n hn a))
+
+  copies-stay : (lost : Lost) (b : ℕ) → b < g .items → i ≤ b
+      → count (copy (survivors lost (view g t′)) b) (g .nodes) ≡ count (copy (survivors lost (view g t)) b) (g .nodes)
+  copies-stay lost b hb l = count-ext (g .nodes) _ _
+      (λ n hn. rw (survivor-marks lost (view g t) (view g t′) n (mark-stays n hn), survivor-entry lost (view g t′), survivor-entry lost (view g t), entry-stays n b hn hb l) refl)
+
+-- ---- a holder of each number
+
+share-has : (w : View) (b code n : ℕ) → shareIn w b code n ≤ 2 * one (has w b code n)
+unfolding shareIn share
+share-has w b code n =
+    by-cases (live w n)
+    (λ e. by-cases (eqb (current (w .entry n b)) code)
+    (λ f. by-cases (eqb (kept (w .entry n b)) 0) (λ k. rw (e, f, k) (omega arith)) (λ k. rw (e, f, k) (omega arith)))
+    (λ f. rw (e, f) (omega arith)))
+    (λ e. rw e (omega arith))
+
+has-copy : (w : View) (b n : ℕ) → one (has w b 4 n) + one (has w b 5 n) ≤ one (copy w b n)
+has-copy w b n =
+    by-cases (live w n)
+    (λ e. elim (ℕ-discrete (current (w .entry n b)) 4) [
+      | yes c ↦ rw (e, c) (omega arith)
+      | no c ↦ elim (ℕ-discrete (current (w .entry n b)) 5) [
+        | yes d ↦ rw (e, d) (omega arith)
+        | no d ↦ rw (e, ne-eqb _ 4 c, ne-eqb _ 5 d) (omega arith)
+      ]
+    ])
+    (λ e. rw e (omega arith))
+
+module _ (w : View) (b : ℕ) where
+  shares-has : (code n : ℕ) → sum (shareIn w b code) n ≤ 2 * count (has w b code) n
+  unfolding sum count
+  shares-has code zero = omega arith
+  shares-has code (suc n) = omega (arith, shares-has code n, share-has w b code n)
+
+  holders-copies : (n : ℕ) → count (has w b 4) n + count (has w b 5) n ≤ count (copy w b) n
+  unfolding count
+  holders-copies zero = omega arith
+  holders-copies (suc n) = omega (arith, holders-copies n, has-copy w b n)
+
+-- by its tally
+abbrev pub skips : ℕ → Bool
+skips tally = not (eqb (tally % 1024) 0) && not (eqb (tally / 1024) 0)
+
+not-zero : (x : ℕ) → not (eqb x 0) ≡ true → 1 ≤ x
+not-zero x h = elim (ℕ-discrete x 0) [ yes e ↦ absurd (no-both (eq-eqb x 0 e) (not-true _ h)) | no d ↦ omega arith ]
+
+not-single : (g : Geometry) (w : View) (b : ℕ) {tally : ℕ} → g .nodes < 256 → tally ≡ sum (weightIn w b) (g .nodes) → skips tally ≡ true → count (copy w b) (g .nodes) ≡ 1 → ⊥
+not-single g w b {tally} small e h one-copy =
+    let t = both (not (eqb (tally % 1024) 0)) h in
+    let x = not-zero (tally % 1024) (t .0) in
+    let y = not-zero (tally / 1024) (t .1) in
+    omega (arith, tally-shares w b (g .nodes), shares-le w b 4 (g .nodes), shares-has w b 4 (g .nodes), shares-has w b 5 (g .nodes), holders-copies w b (g .nodes))
+
+-- what an item's turn needs: by its tally it may have no single copy
+pub record Passable (g : Geometry) (lost : Lost) (left : ℕ) (t s : List ℕ) (b tally : ℕ) : Type 0 where
+  pub ready : Ready g lost left t s
+  pub there : b < g .items
+  pub skip : skips tally ≡ true → count (copy (survivors lost (view g t)) b) (g .nodes) ≡ 1 → ⊥
+
+pub turn-skipped :
+    (g : Geometry) (lost : Lost) {left b tally : ℕ} {t s : List ℕ} → Passable g lost left t s b tally → skips tally ≡ true
+    → Turned g lost (partnerStores g b) left t t s s left
+turn-skipped g lost {left} {b} {tally} {t} {s} p h = item-other g lost b refl (p .skip h) (p .ready .counts)
+
+pub turn-ready :
+    (g : Geometry) (lost : Lost) (i : ℕ) {left left₁ tally : ℕ} {t t₁ s s₁ tallies : List ℕ} → Ready g lost left t s → i < g .items → g .nodes < 256
+    → Tallied g (survivors lost (view g t)) (g .nodes) tallies → tally ≡ getD tallies i 0
+    → Turned g lost (staged (partnerStores g) i) left t t₁ s s₁ left₁ → Passable g lost left₁ t₁ s₁ i tally
+turn-ready g lost i {t = t} {t₁} k h small u e r = record {
+  ready = items-ready g lost i r k;
+  there = h;
+  skip = λ p q. not-single g (survivors lost (view g t)) i small (e ∙ u .at i h) p
+      (sym (copies-stay g i (before-staged g i i (survivors lost (view g t)) (omega arith) (omega arith)) (r .stores) lost i h (omega arith)) ∙ q);
+}
