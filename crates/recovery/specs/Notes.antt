@@ -10,18 +10,18 @@ use borrow.Author.Tests.{eq-eqb, ne-eqb, not-true, not-false}
 use Rattle.counting.specs.Tests.{by-cases}
 use Rattle.counting.specs.declared.values.Values.{Values}
 use Rattle.counting.specs.Counting.{every, every-none, every-next, every-ext, every-all}
-use Rattle.counting.specs.Values.{metOf, noValues}
+use Rattle.counting.specs.Values.{metOf}
 use Rattle.table.specs.declared.geometry.Geometry.{Geometry}
 use Rattle.table.specs.Geometry.{wordsOf}
 use Rattle.table.specs.Changes.{changeOf}
-use Rattle.table.specs.View.{Entry, View, live}
+use Rattle.table.specs.View.{Entry, View}
 use Rattle.table.specs.Copies.{backBy, copyNumber, copyValue}
 use Rattle.recovery.specs.declared.lost.Lost.{Lost}
 use Rattle.recovery.specs.declared.sides.RecoveryCopy.{RecoveryCopy}
 use Rattle.recovery.specs.Survivors.{survivors}
 use Rattle.recovery.specs.SurvivorsCode.{survivor-entry}
-use Rattle.recovery.specs.Sides.{copyOn, hasCopy, copiesOn, itemFits}
-use Rattle.recovery.specs.SidesCode.{Copied, copiesTo, metAt, copies-start, copies-next}
+use Rattle.recovery.specs.Sides.{copyOn, copiesOn, itemFits}
+use Rattle.recovery.specs.SidesCode.{Copied, copiesTo, copies-start, copies-next}
 use Rattle.recovery.specs.Rows.{stateIn, Listed, reached, reached-start, reached-next, listed-turn, listed-end, Rowed, rowed-none, rowed-blank, rowed-set}
 
 -- ---- one copy more, if there is one

@@ -7,17 +7,16 @@ use mathlib.Core.List.{List, [], _∷_, map}
 use native.Mathlib.Omega.{arith}
 use native.Mathlib.Decide.{ℕ-discrete}
 use lib.Dec.{eqb}
-use lib.ListN.{length, getD}
+use lib.ListN.{getD}
 use borrow.Author.Tests.{lt-ltb, eqb-true, eq-eqb, ne-eqb, not-true}
 use Rattle.counting.specs.Tests.{and-both, by-cases, both, no-both}
 use Rattle.counting.specs.Counting.{count, count-ext, one, sum}
 use Rattle.counting.specs.First.{first, first-le}
 use Rattle.table.specs.declared.geometry.Geometry.{Geometry}
-use Rattle.table.specs.Geometry.{wordsOf, entryAt, markAt, entries-apart}
-use Rattle.table.specs.Stores.{Store, Change, stateTo, valueTo, keptTo, sizeStore, markStore, entryStore, Stored, placeOf, partOf, after, after-off, All, none, more, all-then}
-use Rattle.table.specs.View.{Entry, View, view, live, current, kept, updates, entryIn, mark-read, entry-read}
+use Rattle.table.specs.Geometry.{entryAt, markAt, entries-apart}
+use Rattle.table.specs.Stores.{Store, Change, stateTo, valueTo, keptTo, sizeStore, markStore, entryStore, Stored, placeOf, partOf, after-off, All, none, more, all-then}
+use Rattle.table.specs.View.{View, view, live, current, kept, updates, mark-read, entry-read}
 use Rattle.entries.specs.Tally.{copy, has}
-use Rattle.homes.specs.Home.{nodeAfter}
 use Rattle.homes.specs.HomeCode.{after-below}
 use Rattle.recovery.specs.declared.lost.Lost.{Lost}
 use Rattle.recovery.specs.Survivors.{survivors}

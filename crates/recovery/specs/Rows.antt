@@ -4,7 +4,7 @@ use mathlib.Core.Path.{_≡_, refl, sym, ap, _∙_}
 use mathlib.Core.Bool.{Bool, true, false, not}
 use mathlib.Core.List.{List}
 use native.Mathlib.Omega.{arith}
-use native.Mathlib.Decide.{ℕ-discrete, decLt}
+use native.Mathlib.Decide.{ℕ-discrete}
 use native.Mathlib.Nat.{suc-mul, mul-le-mul-right}
 use native.Mathlib.Numerals.{add-one}
 use mir.Val.{boolByte}
@@ -14,7 +14,7 @@ use lib.Seq.{getD-set-same, getD-set-other}
 use Rattle.counting.specs.Tests.{and-both, by-cases}
 use borrow.Author.Tests.{lt-ltb, eqb-true}
 use Rattle.table.specs.declared.geometry.Geometry.{Geometry}
-use Rattle.table.specs.Geometry.{wordsOf, entryAt, Placed, entry-within}
+use Rattle.table.specs.Geometry.{wordsOf, entryAt, Placed}
 use Rattle.table.specs.View.{View, view, entry-read}
 
 -- the state words of a row of entries that starts at a word

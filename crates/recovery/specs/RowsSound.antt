@@ -8,7 +8,7 @@ use mir.Val.{boolByte}
 use lib.Dec.{eqb, leb}
 use lib.ListN.{length, getD}
 use Rattle.counting.specs.Tests.{by-cases}
-use Rattle.counting.specs.Counting.{every, every-none, every-next, every-ext, sum, sum-none, sum-next, sum-ext}
+use Rattle.counting.specs.Counting.{every, every-none, every-next, sum, sum-none, sum-next, sum-ext}
 use Rattle.table.specs.declared.geometry.Geometry.{Geometry}
 use Rattle.table.specs.Words.{stateForm, currentOf, keptOf}
 use Rattle.table.specs.View.{View}

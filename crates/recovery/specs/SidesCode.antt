@@ -1,8 +1,7 @@
 -- The ways of the code that looks at a side: a law for each, over what the code has read.
-use Prim.Native.Nat.{ℕ, _+_, _≤_}
-use mathlib.Core.Path.{_≡_, refl, _∙_}
+use Prim.Native.Nat.{ℕ, _+_}
+use mathlib.Core.Path.{_≡_, refl}
 use mathlib.Core.Bool.{Bool, true, false, not, cond, _&&_}
-use native.Mathlib.Omega.{arith}
 use lib.Dec.{eqb}
 use borrow.Author.Tests.{eq-eqb, ne-eqb}
 use Rattle.counting.specs.declared.values.Values.{Values}
@@ -14,11 +13,8 @@ use Rattle.table.specs.Words.{currentOf, keptOf, phaseOf}
 use Rattle.table.specs.Changes.{changeOf, checkpointOf}
 use Rattle.table.specs.View.{Entry, View}
 use Rattle.table.specs.Copies.{Copy, backBy, copyNumber, copyValue}
-use Rattle.recovery.specs.declared.lost.Lost.{Lost}
 use Rattle.recovery.specs.declared.sides.RecoveryCopy.{RecoveryCopy}
-use Rattle.recovery.specs.Survivors.{survivors}
-use Rattle.recovery.specs.SurvivorsCode.{survivor-entry}
-use Rattle.recovery.specs.Sides.{commits, forwardIn, copyOn, hasCopy, copiesOn, itemFits, itemsFit}
+use Rattle.recovery.specs.Sides.{commits, forwardIn, copyOn, hasCopy, itemFits, itemsFit}
 
 -- what the code has of a recovery copy
 pub record Copied (c : Copy) (r : RecoveryCopy) : Type 0 where

@@ -1,11 +1,10 @@
 -- The holders of each item, counted by rows: an item with at most one plain Shared-CK of each number has no copy that numbering changes.
 use Prim.Native.Nat.{ℕ, zero, suc, _+_, _-_, _*_, _/_, _%_, _^_, _≤_, _<_}
 use mathlib.Core.Path.{_≡_, refl, sym, ap, _∙_}
-use mathlib.Core.Bool.{Bool, true, false, cond, not, _&&_}
+use mathlib.Core.Bool.{Bool, true, cond, _&&_}
 use mathlib.Core.List.{List, [], _∷_}
 use native.Mathlib.Omega.{arith}
 use native.Mathlib.Decide.{ℕ-discrete}
-use native.Mathlib.Numerals.{add-one}
 use lib.Dec.{eqb, ltb}
 use lib.ListN.{length, getD, replicate, length-replicate, getD-replicate}
 use borrow.Author.Tests.{eq-eqb, ne-eqb, eqb-true, ltb-true}
@@ -13,9 +12,8 @@ use Rattle.counting.specs.Tests.{both, by-cases}
 use Rattle.counting.specs.Counting.{every, every-at, sum, sum-none, sum-next, one, count}
 use Rattle.table.specs.declared.geometry.Geometry.{Geometry}
 use Rattle.table.specs.Geometry.{wordsOf}
-use Rattle.table.specs.Words.{invalid, currentOf, keptOf}
-use Rattle.table.specs.Changes.{checkpointOf}
-use Rattle.table.specs.View.{Entry, View, view, live, current, kept}
+use Rattle.table.specs.Words.{currentOf, keptOf}
+use Rattle.table.specs.View.{View, live, current, kept}
 use Rattle.entries.specs.Tally.{has}
 use Rattle.recovery.specs.declared.lost.Lost.{Lost}
 use Rattle.recovery.specs.Survivors.{survivors}

@@ -1,6 +1,6 @@
 -- `roll` meets its contract: a turn finds its node's entries as they were at the start. Assumes nothing.
 use Prim.Native.Nat.{_≤_, _-_}
-use mathlib.Core.Path.{_≡_, refl, _∙_}
+use mathlib.Core.Path.{_≡_, _∙_}
 use lib.ListN.{length}
 use Rattle.table.specs.Stores.{Stored}
 use Rattle.table.specs.View.{view}

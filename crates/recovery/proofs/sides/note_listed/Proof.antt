@@ -1,7 +1,5 @@
 -- `note_listed` meets its contract: the items before the list's next are noted. Assumes nothing.
 use Prim.Native.Nat.{_≤_, _-_}
-use mathlib.Core.Path.{_≡_, refl}
-use lib.ListN.{length}
 use Rattle.table.specs.View.{view}
 use Rattle.recovery.specs.Rows.{reached}
 use Rattle.recovery.specs.Notes.{NotedTo, noted-start, noted-rooms, noted-turn, noted-all}
