@@ -11,15 +11,12 @@ use mir.Val.{boolByte}
 use lib.Dec.{eqb}
 use lib.ListN.{length, getD, set, length-set}
 use lib.Seq.{getD-set-same, getD-set-other}
-use Rattle.counting.specs.Tests.{and-both, by-cases}
-use borrow.Author.Tests.{lt-ltb, eqb-true}
+use Rattle.counting.specs.Tests.{by-cases}
+use borrow.Author.Tests.{eqb-true}
 use Rattle.table.specs.declared.geometry.Geometry.{Geometry}
-use Rattle.table.specs.Geometry.{wordsOf, entryAt, Placed}
-use Rattle.table.specs.View.{View, view, entry-read}
-
--- the state words of a row of entries that starts at a word
-unfoldable pub rowState : List ℕ → ℕ → ℕ → ℕ
-rowState t start b = getD t (start + 3 * b) 0
+use Rattle.table.specs.Geometry.{wordsOf, Placed}
+use Rattle.table.specs.View.{View, view}
+use Rattle.entries.specs.Row.{rowState, row-state}
 
 -- the state word of node n's entry of item b
 abbrev pub stateIn : View → ℕ → ℕ → ℕ
@@ -130,10 +127,6 @@ pub byte-small : (b : Bool) → boolByte b ≤ 1
 byte-small true = omega arith
 byte-small false = omega arith
 
-pub row-read : (t : List ℕ) (start b : ℕ) {at : ℕ} → at ≡ start + 3 * b → getD t at 0 ≡ rowState t start b
-unfolding rowState
-row-read t start b a = ap (λ i. getD t i 0) a
-
 pub listing-ends : (f : ℕ → ℕ) {i m : ℕ} {l l′ : List ℕ} {r : ℕ} → i ≤ m → m ≤ i → Listing f i l l′ r → Listing f m l l′ r
 listing-ends f {i} {m} h k o = let e : i ≡ m = omega arith in rw e at o
 
@@ -225,14 +218,8 @@ listed-ext same o =
     }
 
 module _ (g : Geometry) (t : List ℕ) (n : ℕ) (h : n < g .nodes) {start : ℕ} (a : Placed g n 0 start) where
-  pub row-state : (b : ℕ) → b < g .items → rowState t start b ≡ stateIn (view g t) n b
-  unfolding rowState
-  row-state b k =
-      let e : start + 3 * b ≡ entryAt g n b + 0 = omega (arith, a .at) in
-      ap (λ i. getD t i 0) e ∙ sym (ap (λ x. x .state) (entry-read g t n b (and-both (lt-ltb _ _ h) (lt-ltb _ _ k))))
-
   pub row-room : wordsOf g ≤ length t → start + 3 * g .items ≤ length t
   row-room long = let p = rw suc-mul at (mul-le-mul-right (g .items) h) in omega (arith, a .at)
 
   pub row-listed : {l l′ : List ℕ} {r : ℕ} → Listing (rowState t start) (g .items) l l′ r → Listing (stateIn (view g t) n) (g .items) l l′ r
-  row-listed = listed-ext row-state
+  row-listed = listed-ext (row-state g t n h a)

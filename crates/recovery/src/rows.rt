@@ -5,7 +5,8 @@ ghost use lib.ListN.{length};
 ghost use Rattle.table.specs.Geometry.{wordsOf};
 ghost use Rattle.table.specs.View.{view};
 ghost use Rattle.entries.specs.Frames.{framesIn};
-ghost use Rattle.recovery.specs.Rows.{rowState, stateIn, Listing};
+ghost use Rattle.entries.specs.Row.{rowState};
+ghost use Rattle.recovery.specs.Rows.{stateIn, Listing};
 use table::geometry::Geometry;
 use table::words;
 

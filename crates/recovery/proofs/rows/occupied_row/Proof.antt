@@ -1,12 +1,13 @@
 -- `occupied_row` meets its contract: the items before `item` are listed. Assumes nothing.
 use Prim.Native.Nat.{_+_, _-_, _*_, _≤_}
-use mathlib.Core.Path.{_≡_}
+use mathlib.Core.Path.{_≡_, refl}
 use mathlib.Core.Bool.{not}
 use lib.Dec.{eqb}
 use lib.ListN.{getD}
 use native.Mathlib.Omega.{arith}
 use borrow.Author.Needs.{needs}
-use Rattle.recovery.specs.Rows.{rowState, Listing, listing-none, listing-turn, listing-ends, byte-small, row-read}
+use Rattle.entries.specs.Row.{rowState, row-read}
+use Rattle.recovery.specs.Rows.{Listing, listing-none, listing-turn, listing-ends, byte-small}
 use Rattle.recovery.proofs.rows.occupied_row.Statement.{statement}
 use Rattle.recovery.proofs.rows.occupied_row.Tie as tie
 
@@ -31,7 +32,7 @@ loop-again c =
     let l = c .before .before in
     let i = l .loop .inv in
     let b = byte-small (not (eqb (getD (l .before .args .table .now) (l .loop .at) 0) 0)) in
-    (search needs, (omega arith, (omega (arith, i .1 .1 .0), listing-turn _ _ (i .1 .1 .1) (omega (arith, l .before .pre .1 .1)) (row-read _ _ _ (i .1 .0)))))
+    (search needs, (omega arith, (omega (arith, i .1 .1 .0), listing-turn _ _ (i .1 .1 .1) (omega (arith, l .before .pre .1 .1)) (row-read _ _ _ (i .1 .0) refl))))
 
 returns : tie.Need-returns Inv-loop μ-loop
 returns c = let i = c .before .loop .inv in listing-ends _ (i .0) (c .loop-test .left) (i .1 .1 .1)
