@@ -20,6 +20,14 @@ pub and-same : (a x y : Bool) → (a ≡ true → x ≡ y) → (a && x) ≡ (a &
 and-same true x y f = f refl
 and-same false x y f = refl
 
+pub and-true : (a : Bool) → (a && true) ≡ a
+and-true true = refl
+and-true false = refl
+
+pub and-assoc : (a b c : Bool) → ((a && b) && c) ≡ (a && (b && c))
+and-assoc true b c = refl
+and-assoc false b c = refl
+
 pub and-no-right : (a : Bool) {b : Bool} → a ≡ true → (a && b) ≡ false → b ≡ false
 and-no-right true e h = h
 and-no-right false e h = absurd (no-both e refl)

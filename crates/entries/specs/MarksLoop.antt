@@ -9,7 +9,7 @@ use lib.Dec.{eqb, ltb}
 use borrow.Author.Tests.{eqb-true, eqb-false, eq-eqb, ne-eqb, not-true}
 use Rattle.table.specs.View.{View, live}
 use Rattle.counting.specs.declared.values.Values.{Values}
-use Rattle.counting.specs.Tests.{both, and-both, by-cases, bool-iff}
+use Rattle.counting.specs.Tests.{both, and-both, by-cases, bool-iff, and-true, and-assoc}
 use Rattle.counting.specs.Counting.{every-at, every-all}
 use Rattle.counting.specs.Values.{valuesOf, values-next, values-equal, equal-values}
 use Rattle.entries.specs.Sound.{marksForm, phasesOf, pointsOf, marksAgree, nodesSound, itemsSound, sound}
@@ -38,10 +38,6 @@ pub record Marking (v : View) (n first : ℕ) (equal : Bool) : Type 0 where
 pub marking-none : (v : View) → Marking v 0 0 true
 unfolding marksOf valuesOf
 marking-none v = record { seen = refl; first-is = refl; equal-is = refl }
-
-and-true : (a : Bool) → (a && true) ≡ a
-and-true true = refl
-and-true false = refl
 
 module _ (v : View) (n first : ℕ) (equal : Bool) (s : Marking v n first equal) (w : ℕ) (e : w ≡ v .mark n) (r : ℕ) where
   -- a mark before which none was live
@@ -153,13 +149,9 @@ module _ (v : View) (n : ℕ) where
   pub marks-tell : (marksForm v n && marksAgree (phasesOf v n) (pointsOf v n)) ≡ marksTest (marksOf v n .first) (marksOf v n .equal)
   marks-tell = bool-iff _ _ forms-tell tell-forms
 
-and-then : (a b c : Bool) → ((a && b) && c) ≡ (a && (b && c))
-and-then true b c = refl
-and-then false b c = refl
-
 -- all tests together, as the code makes them
 pub marked-sound :
     (g : Geometry) (v : View) (m : Marks) → Marked v (g .nodes) m → {agree rest : Bool} → agree ≡ marksTest (m .first) (m .equal)
     → rest ≡ (nodesSound g v && itemsSound g v (phaseOf (m .first))) → (agree && rest) ≡ sound g v
 unfolding sound
-marked-sound g v m k a n = rw (a, n, k .first, k .equal, ← marks-tell, ← marks-phase) (and-then (marksForm v (g .nodes)) _ _)
+marked-sound g v m k a n = rw (a, n, k .first, k .equal, ← marks-tell, ← marks-phase) (and-assoc (marksForm v (g .nodes)) _ _)

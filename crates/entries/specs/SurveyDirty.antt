@@ -7,7 +7,7 @@ use native.Mathlib.Omega.{arith}
 use lib.Dec.{eqb, ltb}
 use lib.ListN.{getD}
 use borrow.Author.Tests.{eqb-true}
-use Rattle.counting.specs.Tests.{both, by-cases, given}
+use Rattle.counting.specs.Tests.{both, by-cases, given, and-true}
 use Rattle.counting.specs.Counting.{every, every-at, every-back, every-back-ends, sum, count, count-le, count-ext, count-or}
 use Rattle.counting.specs.First.{first, first-ext, found-counted, firstElse, else-starts, else-turns, else-ends}
 use Rattle.table.specs.declared.geometry.Geometry.{Geometry}
@@ -42,10 +42,6 @@ pub record KindsFrom (notes : List ℕ) (items phase item : ℕ) (sound : Bool) 
   pub tests : every (kindIn notes phase) items ≡ (every (kindIn notes phase) item && sound)
   pub lowest : first (ownsIn notes) items ≡ firstElse (ownsIn notes) item dirty
 
-and-true : (a : Bool) → a ≡ (a && true)
-and-true true = refl
-and-true false = refl
-
 other-way : (q : Bool) (x y : ℕ) → cond q x y ≡ cond (not q) y x
 other-way true x y = refl
 other-way false x y = refl
@@ -61,7 +57,7 @@ kind-by phase t = by-cases (eqb phase 1) (λ e. rw e refl)
 
 module _ (notes : List ℕ) (items phase : ℕ) where
   pub kinds-start : KindsFrom notes items phase items true items
-  kinds-start = record { tests = and-true _; lowest = else-starts (ownsIn notes) items }
+  kinds-start = record { tests = sym (and-true _); lowest = else-starts (ownsIn notes) items }
 
   pub kinds-turn :
       {m n at created : ℕ} {sound good : Bool} {d r : ℕ} → created ≡ createdTally phase → KindsFrom notes items phase m sound d → m ≡ n + 1 → at ≡ 3 * n

@@ -5,7 +5,7 @@ use mathlib.Core.Bool.{Bool, true, false, not, _&&_, _||_}
 use native.Mathlib.Omega.{arith}
 use lib.Dec.{eqb}
 use borrow.Author.Tests.{eqb-true, eq-eqb, not-true}
-use Rattle.counting.specs.Tests.{no-both, both, and-both, and-same, by-cases, bool-iff}
+use Rattle.counting.specs.Tests.{no-both, both, and-both, and-same, by-cases, bool-iff, and-assoc}
 use Rattle.counting.specs.Counting.{every, every-at, sum, count, one, count-le, count-ext}
 use Rattle.counting.specs.Values.{values-unseen, equal-values}
 use Rattle.table.specs.View.{View, live, current, kept}
@@ -21,10 +21,6 @@ use Rattle.entries.specs.SurveyFields.{form-codes, count-seen, keeps-cou
 and-none : (a : Bool) → (a && false) ≡ false
 and-none true = refl
 and-none false = refl
-
-and-assoc : (a x y : Bool) → (a && (x && y)) ≡ ((a && x) && y)
-and-assoc true x y = refl
-and-assoc false x y = refl
 
 -- a test that both sides of an `||` ask
 or-both : (a b x : Bool) → ((a && x) || (b && x)) ≡ ((a || b) && x)
@@ -153,7 +149,7 @@ module _
           let o = eqb c2 1 && eqb a (1 + s) in
           let k = eqb k1 1 && eqb k2 1 in
           ap (λ q. (m || o) && q) (both-kept equal (eqb k1 1) (eqb k2 1) same)
-          ∙ and-assoc (m || o) k (equal && same)
+          ∙ sym (and-assoc (m || o) k (equal && same))
           ∙ ap (λ q. q && (equal && same))
           (sym (or-both m o k) ∙ ap₂ (λ x y. x || y) modified-whole (owner-upper ∙ ap (λ x. eqb x (1 + 2 ^ 5 + 2 ^ 10)) (sym whole-upper)))
 
@@ -178,7 +174,7 @@ module _
           let q = equal && same in
           ap₂ (λ c r. c || r) clean-told
           (ap₂ (λ d c. d || (eqb phase 1 && c)) dirty-told created-told
-          ∙ ap (λ r. (y && q) || r) (and-assoc (eqb phase 1) z q)
+          ∙ ap (λ r. (y && q) || r) (sym (and-assoc (eqb phase 1) z q))
           ∙ or-both y (eqb phase 1 && z) q)
           ∙ or-both x (y || (eqb phase 1 && z)) q
 

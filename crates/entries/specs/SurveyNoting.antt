@@ -10,7 +10,7 @@ use lib.Dec.{eqb}
 use lib.ListN.{length, getD, set, length-set}
 use lib.Seq.{getD-set-same, getD-set-other}
 use borrow.Author.Tests.{eq-eqb, ne-eqb, lt-ltb}
-use Rattle.counting.specs.Tests.{and-both}
+use Rattle.counting.specs.Tests.{and-both, and-true}
 use Rattle.counting.specs.Counting.{every, every-none, every-next, sum, sum-none, sum-next, count, count-none, count-le, below}
 use Rattle.table.specs.declared.geometry.Geometry.{Geometry}
 use Rattle.table.specs.Geometry.{entryAt, Placed, entry-within, product}
@@ -86,10 +86,6 @@ and-turn false true true = refl
 and-turn false true false = refl
 and-turn false false true = refl
 and-turn false false false = refl
-
-and-true : (a : Bool) → (a && true) ≡ a
-and-true true = refl
-and-true false = refl
 
 -- of node n's row of m items those below b are noted
 pub record Passed (v : View) (m n b : ℕ) (notes : List ℕ) (frames : ℕ) (same : Bool) : Type 0 where

@@ -6,7 +6,7 @@ use native.Mathlib.Omega.{arith}
 use native.Mathlib.Numerals.{add-one}
 use lib.Dec.{eqb}
 use borrow.Author.Tests.{eq-eqb, eqb-true}
-use Rattle.counting.specs.Tests.{by-cases, no-both}
+use Rattle.counting.specs.Tests.{by-cases, no-both, and-true}
 use Rattle.counting.specs.Counting.{every, sum-next}
 use Rattle.counting.specs.Values.{metOf, valuesOf, values-next}
 use Rattle.counting.specs.declared.values.Values.{Values}
@@ -32,10 +32,6 @@ module _ (s : Values) (has none : Bool) (f x : ℕ) (z : none ≡ not (s .seen))
   same-step not-has n = by-cases has
       (λ q. by-cases (s .seen) (λ e. rw (z, n, q, e) (eqb-swap f x ∙ ap (eqb x) (k e))) (λ e. rw (z, n, q, e) (eq-eqb x x refl)))
       (λ q. rw (n, q) (eq-eqb (cond none x f) (cond none x f) refl))
-
-and-true : (a : Bool) → (a && true) ≡ a
-and-true true = refl
-and-true false = refl
 
 equal-step : (s : Values) (has : Bool) (x : ℕ) → cond has (metOf s x) s .equal ≡ (s .equal && (not has || (not (s .seen) || eqb x (s .first))))
 equal-step s has x = by-cases has

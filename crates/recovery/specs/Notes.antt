@@ -7,7 +7,7 @@ use native.Mathlib.Omega.{arith}
 use lib.Dec.{eqb}
 use lib.ListN.{length, getD, set, replicate, length-replicate, getD-replicate}
 use borrow.Author.Tests.{eq-eqb, ne-eqb, not-true, not-false}
-use Rattle.counting.specs.Tests.{by-cases}
+use Rattle.counting.specs.Tests.{by-cases, and-true}
 use Rattle.counting.specs.declared.values.Values.{Values}
 use Rattle.counting.specs.Counting.{every, every-none, every-next, every-ext, every-all}
 use Rattle.counting.specs.Values.{metOf}
@@ -74,10 +74,6 @@ pub record Notable (g : Geometry) (v : View) (n : ℕ) (l : List ℕ) (count : �
 pub noted-start : (forward : Bool) (v : View) (n : ℕ) (l firsts seens : List ℕ) → NotedTo forward v n firsts seens (reached l 0) firsts seens true
 noted-start forward v n l firsts seens =
     rw (reached-start l) (record { firsts-row = rowed-none _ firsts; seens-row = rowed-none _ seens; agrees = every-none _ })
-
-and-true : (b : Bool) → (b && true) ≡ b
-and-true true = refl
-and-true false = refl
 
 module _ (forward : Bool) (v : View) (n : ℕ) {firsts seens firsts′ seens′ : List ℕ} {agree : Bool} where
   noted-blank : (j : ℕ) → stateIn v n j ≡ 0 → NotedTo forward v n firsts seens j firsts′ seens′ agree → NotedTo forward v n firsts seens (j + 1) firsts′ seens′ agree

@@ -7,7 +7,7 @@ use native.Mathlib.Omega.{arith}
 use mir.Val.{boolByte}
 use lib.Dec.{eqb, leb}
 use lib.ListN.{length, getD}
-use Rattle.counting.specs.Tests.{by-cases}
+use Rattle.counting.specs.Tests.{by-cases, and-true}
 use Rattle.counting.specs.Counting.{every, every-none, every-next, sum, sum-none, sum-next, sum-ext}
 use Rattle.table.specs.declared.geometry.Geometry.{Geometry}
 use Rattle.table.specs.Words.{stateForm, currentOf, keptOf}
@@ -39,10 +39,6 @@ pub record RowTo (v : View) (n i : ℕ) (forms : Bool) (frames : ℕ) : Type 0 w
 
 pub row-start : (v : View) (n : ℕ) (l : List ℕ) → RowTo v n (reached l 0) true 0
 row-start v n l = rw (reached-start l) (record { formed = every-none _; in-use = sum-none _; few = omega arith })
-
-and-true : (b : Bool) → (b && true) ≡ b
-and-true true = refl
-and-true false = refl
 
 module _ (v : View) (n : ℕ) {forms : Bool} {frames : ℕ} where
   row-next :

@@ -1,18 +1,16 @@
 -- A row of fresh entries: the entries of one node, items ascending, all values 0, with a copy at some items. How far the node is ahead of an
 -- item's first copy says which: 0 has the first copy, 1 the second, more has none.
-use Prim.Native.Nat.{ℕ, zero, suc, _+_, _-_, _*_, _≤_, _<_}
+use Prim.Native.Nat.{ℕ, zero, suc, _+_, _-_, _≤_, _<_}
 use mathlib.Core.Path.{_≡_, refl, ap, sym, _∙_}
 use mathlib.Core.Bool.{cond}
 use mathlib.Core.List.{List, [], _∷_, map}
 use native.Mathlib.Omega.{arith}
 use native.Mathlib.Numerals.{add-one}
 use lib.Dec.{eqb, ltb}
-use lib.ListN.{length, set}
 use borrow.Author.Tests.{eq-eqb, ne-eqb, lt-ltb, le-ltb}
 use Rattle.table.specs.declared.geometry.Geometry.{Geometry}
-use Rattle.table.specs.Words.{invalid, stateWord}
-use Rattle.table.specs.Geometry.{entryAt}
-use Rattle.table.specs.Stores.{Change, stateTo, valueTo, keptTo, Store, entryStore, runs, Stored, StoredIn, wrote-word, stored-one, stored-then, stored-as, loop-starts, loop-turns, loop-ends}
+use Rattle.table.specs.Words.{invalid}
+use Rattle.table.specs.Stores.{Change, stateTo, valueTo, keptTo, Store, entryStore, runs, Stored, StoredIn, stored-then, stored-as, loop-starts, loop-turns, loop-ends}
 
 -- the distance at the item after: two less, or around the nodes
 unfoldable pub nextAhead : ℕ → ℕ → ℕ
@@ -64,46 +62,7 @@ pub fresh-then :
     → StoredIn g left n b (freshEntry place) t t₃ left₃
 fresh-then first second third = stored-then first (stored-then second third)
 
--- the same words, put without a look at the limit
-unfoldable pub putEntry : ℕ → ℕ → List ℕ → List ℕ
-putEntry at place t = set (set (set t at (stateWord place invalid)) (at + 1) 0) (at + 2) 0
-
-pub put-words :
-    (at place : ℕ) (t : List ℕ) {word : ℕ} → word ≡ stateWord place invalid → set (set (set t at word) (at + 1) 0) (at + 2) 0 ≡ putEntry at place t
-unfolding putEntry
-put-words at place t e = rw e refl
-
-pub put-stored :
-    (g : Geometry) (n b place left at : ℕ) (t : List ℕ) → 3 ≤ left → at ≡ entryAt g n b
-    → StoredIn g left n b (freshEntry place) t (putEntry at place t) (left - 1 - 1 - 1)
-unfolding putEntry
-put-stored g n b place left at t h e =
-    fresh-then
-    (stored-one g (entryStore n b (stateTo place invalid)) (wrote-word left at (stateWord place invalid) t (λ z. omega arith)) (omega arith) refl)
-    (stored-one g (entryStore n b (valueTo 0)) (wrote-word (left - 1) (at + 1) 0 (set t at (stateWord place invalid)) (λ z. omega arith)) (omega arith) refl)
-    (stored-one g (entryStore n b (keptTo 0)) (wrote-word (left - 1 - 1) (at + 2) 0 (set (set t at (stateWord place invalid)) (at + 1) 0) (λ z. omega arith)) (omega arith) refl)
-
--- an entry of the row was put, and the distance of the item after
-pub record PutNext (at first second around ahead : ℕ) (t t′ : List ℕ) (r : ℕ) : Type 0 where
-  pub table : t′ ≡ putEntry at (placeAhead first second ahead) t
-  pub next : r ≡ nextAhead around ahead
-
-module _ (at first second around ahead : ℕ) {t t′ : List ℕ} where
-  pub put-copy :
-      {place : ℕ} → ahead < 2 → place ≡ placeAhead first second ahead → t′ ≡ putEntry at place t
-      → PutNext at first second around ahead t t′ (ahead + around)
-  put-copy h p e = record { table = rw p at e; next = next-near around ahead h }
-
-  pub put-none : 2 ≤ ahead → t′ ≡ putEntry at invalid t → PutNext at first second around ahead t t′ (ahead - 2)
-  put-none h e = record { table = e ∙ ap (λ x. putEntry at x t) (place-none first second ahead h); next = next-far around ahead h }
-
--- limit and table have room for the row
-pub record Room (g : Geometry) (n left : ℕ) (t : List ℕ) : Type 0 where
-  pub limit : 3 * g .items ≤ left
-  pub reach : entryAt g n (g .items) ≤ length t
-  pub small : entryAt g n (g .items) < 1000000000
-
--- the loops: the items before b are stored
+-- the loop: the items before b are stored
 pub record Row (g : Geometry) (n first second around left : ℕ) (b ahead : ℕ) (t t′ : List ℕ) (left′ : ℕ) : Type 0 where
   pub within : b ≤ g .items
   pub distance : ahead ≡ aheadAt around n b
@@ -132,27 +91,3 @@ module _ {g : Geometry} {n first second around left : ℕ} {t : List ℕ} where
       {b ahead left′ : ℕ} {t′ : List ℕ} → Row g n first second around left b ahead t t′ left′ → g .items ≤ b
       → Stored g left (runs (rowEntry n first second around) (g .items)) t t′ left′
   row-ends {b} w h = loop-ends (rowEntry n first second around) b (g .items) (w .within) h (w .stored)
-
-  -- where there is room
-  pub put-starts : Row g n first second around left 0 n t t (left - 3 * 0)
-  put-starts = let e : left - 3 * 0 ≡ left = omega arith in rw e row-starts
-
-  module _ {b ahead at : ℕ} {t₁ : List ℕ} (m : Room g n left t) (w : Row g n first second around left b ahead t t₁ (left - 3 * b)) where
-    pub put-within : b < g .items → at ≡ entryAt g n b → at + 2 < length t₁
-    put-within h e = omega (arith, m .reach, w .stored .size)
-
-    pub put-small : b < g .items → at ≡ entryAt g n b → at + 3 ≤ 1000000000
-    put-small h e = omega (arith, m .small)
-
-    pub put-turns :
-        {r : ℕ} {t₂ : List ℕ} → b < g .items → at ≡ entryAt g n b → PutNext at first second around ahead t₁ t₂ r
-        → Row g n first second around left (b + 1) r t t₂ (left - 3 * (b + 1))
-    put-turns h e p =
-        let s = put-stored g n b (placeAhead first second ahead) (left - 3 * b) at t₁ (omega (arith, m .limit)) e in
-        let c : left - 3 * (b + 1) ≡ left - 3 * b - 1 - 1 - 1 = omega arith in
-        rw (c, p .table) (row-turns w h refl s (p .next))
-
-  pub put-ends :
-      {b ahead : ℕ} {t₁ : List ℕ} → Row g n first second around left b ahead t t₁ (left - 3 * b) → g .items ≤ b
-      → Stored g left (runs (rowEntry n first second around) (g .items)) t t₁ (left - 3 * g .items)
-  put-ends {b} w h = let e : left - 3 * g .items ≡ left - 3 * b = omega (arith, w .within) in rw e (row-ends w h)

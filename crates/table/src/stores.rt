@@ -1,11 +1,9 @@
-// Reading and storing words of the table. This file alone stores, and looks at the limit: `store` for each word, `store_row` once for a row of
-// fresh entries. The others say which word they mean.
+// Reading and storing words of the table. One function stores, and it alone looks at the limit; the others say which word they mean.
 ghost use mathlib.Core.Path.{_≡_};
 ghost use mathlib.Core.List.{[], _∷_};
-ghost use lib.ListN.{getD, length};
-ghost use Prim.Native.Nat.{_+_, _<_};
+ghost use lib.ListN.{getD};
 ghost use Rattle.table.specs.Stores.{Wrote, Stored, StoredIn, runs, sizeStore, markStore, entryStore, stateTo, valueTo, keptTo};
-ghost use Rattle.table.specs.Rows.{nextAhead, placeAhead, freshEntry, rowEntry, putEntry, PutNext, Room};
+ghost use Rattle.table.specs.Rows.{nextAhead, placeAhead, freshEntry, rowEntry};
 ghost use Rattle.table.specs.View.{entryWord, view};
 use crate::geometry::Geometry;
 
@@ -161,8 +159,9 @@ fn store_fresh(table: &mut [u64], left: u64, g: Geometry, node: u8, item: u16, c
     store_kept(table, left, g, node, item, 0)
 }
 
-// The row, word by word through `store`.
-fn store_row_by_words(
+// Stores a row of fresh entries: the entries of a node, items ascending. The node is as far ahead of item 0's first copy as its number says,
+// at each item after two less; past a copy it is `around` more.
+pub fn store_row(
     table: &mut [u64],
     left: u64,
     g: Geometry,
@@ -184,78 +183,4 @@ fn store_row_by_words(
         item += 1;
     }
     left
-}
-
-// Puts the three words of a fresh entry, in order.
-fn put_entry(table: &mut [u64], at: usize, current: u8)
-    requires { ⌜ at + 2 < length (now table) ⌝ }
-    ensures { λ r. ⌜ now (table .exit) ≡ putEntry at current (now (table .entry)) ⌝ }
-{
-    let word = crate::words::state_word(current, crate::words::INVALID);
-    table[at] = word;
-    table[at + 1] = 0;
-    table[at + 2] = 0;
-}
-
-// Puts an entry of the row; answers how far the node is ahead at the item after.
-fn put_next(table: &mut [u64], at: usize, ahead: u64, first: u8, second: u8, around: u8) -> u64
-    requires { ⌜ at + 2 < length (now table) ⌝ }
-    ensures { λ r. ⌜ PutNext at first second around ahead (now (table .entry)) (now (table .exit)) r ⌝ }
-{
-    if ahead < 2 {
-        let current = place_ahead(ahead, first, second);
-        put_entry(table, at, current);
-        return ahead + around as u64;
-    }
-    put_entry(table, at, crate::words::INVALID);
-    ahead - 2
-}
-
-// The row, where limit and table have room for it: no test for each word.
-fn put_row(
-    table: &mut [u64],
-    left: u64,
-    g: Geometry,
-    node: u8,
-    first: u8,
-    second: u8,
-    around: u8,
-) -> u64
-    requires { ⌜ Room g node left (now table) ⌝ }
-    ensures { λ r. ⌜ Stored g left (runs (rowEntry node first second around) (g .items)) (now (table .entry)) (now (table .exit)) r ⌝ }
-{
-    let mut at = g.entry_at(node, 0);
-    let items = g.items;
-    let mut ahead = node as u64;
-    let mut item: u16 = 0;
-    while item < items {
-        ahead = put_next(table, at, ahead, first, second, around);
-        at += Geometry::ENTRY_WORDS;
-        item += 1;
-    }
-    left - 3 * (g.items as u64)
-}
-
-// Stores a row of fresh entries: the entries of a node, items ascending. The node is as far ahead of item 0's first copy as its number says,
-// at each item after two less; past a copy it is `around` more.
-pub fn store_row(
-    table: &mut [u64],
-    left: u64,
-    g: Geometry,
-    node: u8,
-    first: u8,
-    second: u8,
-    around: u8,
-) -> u64
-    ensures { λ r. ⌜ Stored g left (runs (rowEntry node first second around) (g .items)) (now (table .entry)) (now (table .exit)) r ⌝ }
-{
-    let words = 3 * (g.items as u64);
-    if left < words {
-        return store_row_by_words(table, left, g, node, first, second, around);
-    }
-    let end = g.entry_at(node, g.items);
-    if table.len() < end {
-        return store_row_by_words(table, left, g, node, first, second, around);
-    }
-    put_row(table, left, g, node, first, second, around)
 }

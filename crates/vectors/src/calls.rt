@@ -1,8 +1,6 @@
 // The call of a vector.
 use crate::read::Vector;
-use homes::places::Place;
 use recovery::call::Call;
-use recovery::lost::Lost;
 
 // A call, or an operation that is not known.
 pub(crate) enum Asked {
@@ -10,24 +8,10 @@ pub(crate) enum Asked {
     Unknown,
 }
 
-fn place_of(choice: u64) -> Place {
-    if choice == 0 {
-        return Place::Current;
-    }
-    Place::Kept
-}
-
-fn lost_of(choice: u64, node: u64) -> Lost {
-    if choice == 0 {
-        return Lost::Node(node);
-    }
-    Lost::Nobody
-}
-
 // The operations are quay's; 9 is Check and 10 is Stretch.
 pub(crate) fn call_of(v: Vector) -> Asked {
-    let place = place_of(v.choice);
-    let lost = lost_of(v.choice, v.first);
+    let place = homes::places::place_by(v.choice);
+    let lost = recovery::lost::lost_by(v.choice, v.first);
     let operation = v.operation;
     match operation {
         0 => Asked::Known(Call::Format {

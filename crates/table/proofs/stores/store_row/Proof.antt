@@ -1,9 +1,9 @@
--- `store_row_by_words` meets its contract: the loop has stored the items before `item`. Assumes nothing.
+-- `store_row` meets its contract: the loop has stored the items before `item`. Assumes nothing.
 use Prim.Native.Nat.{_-_}
 use Rattle.table.specs.Rows.{Row, row-starts, row-turns, row-ends}
 use borrow.Author.Needs.{needs}
-use Rattle.table.proofs.stores.store_row_by_words.Statement.{statement}
-use Rattle.table.proofs.stores.store_row_by_words.Tie as tie
+use Rattle.table.proofs.stores.store_row.Statement.{statement}
+use Rattle.table.proofs.stores.store_row.Tie as tie
 
 abbrev Inv-loop : tie.InvT-loop
 Inv-loop table₀ left g node first second around items left₀ ahead₀ item₀ table left' ahead item =
@@ -12,8 +12,8 @@ Inv-loop table₀ left g node first second around items left₀ ahead₀ item₀
 abbrev μ-loop : tie.MeasureT-loop
 μ-loop table₀ left g node first second around items left₀ ahead₀ item₀ table left' ahead item = g .items - item
 
-pub store-row-by-words-spec : {M : Type 1} → statement M
-store-row-by-words-spec =
+pub store-row-spec : {M : Type 1} → statement M
+store-row-spec =
     tie.close
     (tie.spec
     Inv-loop
