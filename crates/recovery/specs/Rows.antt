@@ -16,7 +16,7 @@ use borrow.Author.Tests.{eqb-true}
 use Rattle.table.specs.declared.geometry.Geometry.{Geometry}
 use Rattle.table.specs.Geometry.{wordsOf, Placed}
 use Rattle.table.specs.View.{View, view}
-use Rattle.entries.specs.Row.{rowState, row-state}
+use Rattle.entries.specs.Row.{rowState, row-state, row-read}
 
 -- the state word of node n's entry of item b
 abbrev pub stateIn : View → ℕ → ℕ → ℕ
@@ -129,6 +129,37 @@ byte-small false = omega arith
 
 pub listing-ends : (f : ℕ → ℕ) {i m : ℕ} {l l′ : List ℕ} {r : ℕ} → i ≤ m → m ≤ i → Listing f i l l′ r → Listing f m l l′ r
 listing-ends f {i} {m} h k o = let e : i ≡ m = omega arith in rw e at o
+
+pub listing-at : {f : ℕ → ℕ} {i m : ℕ} {l l′ : List ℕ} {r : ℕ} → i ≡ m → Listing f i l l′ r → Listing f m l l′ r
+listing-at e o = rw e at o
+
+-- of the list at first only the length is told
+pub listing-for : {f : ℕ → ℕ} {m : ℕ} {k l l′ : List ℕ} {r : ℕ} → length l ≡ length k → Listing f m l l′ r → Listing f m k l′ r
+listing-for e o = record { listed = o .listed; size = o .size ∙ e }
+
+-- the items of a row are listed on from an item whose state word is at a place, n of them
+pub record ListedMore (t : List ℕ) (at item n : ℕ) (l l′ : List ℕ) (r r′ : ℕ) : Type 0 where
+  pub lists :
+      (start : ℕ) {l₀ : List ℕ} → at ≡ start + 3 * item → item + n ≤ length l₀ → Listing (rowState t start) item l₀ l r
+      → Listing (rowState t start) (item + n) l₀ l′ r′
+  pub few : r′ ≤ r + n
+  pub size : length l′ ≡ length l
+
+pub listed-one : (t : List ℕ) (at item : ℕ) {l : List ℕ} {r w : ℕ} → w ≡ getD t at 0 → ListedMore t at item 1 l (set l r item) r (r + boolByte (not (eqb w 0)))
+listed-one t at item {l} {r} {w} e = record {
+  lists = λ start a room o. listing-turn (rowState t start) item o (omega arith) (row-read t start item a e);
+  few = omega (arith, byte-small (not (eqb w 0)));
+  size = length-set l r item;
+}
+
+pub listed-then :
+    {t : List ℕ} {at at′ item item′ n m : ℕ} {l l′ l″ : List ℕ} {r r′ r″ : ℕ} → ListedMore t at item n l l′ r r′ → at′ ≡ at + 3 * n → item′ ≡ item + n
+    → ListedMore t at′ item′ m l′ l″ r′ r″ → ListedMore t at item (n + m) l l″ r r″
+listed-then p a e q = record {
+  lists = λ start b room o. listing-at (omega arith) (q .lists start (omega arith) (omega arith) (listing-at (omega arith) (p .lists start b (omega arith) o)));
+  few = omega (arith, p .few, q .few);
+  size = q .size ∙ p .size;
+}
 
 -- ---- a pass over the list in the place of all items: what holds at an item holds after it where f is 0
 
