@@ -1,5 +1,5 @@
 -- The ways of the code that rolls the entries: a law for each, over what the code has read.
-use Prim.Native.Nat.{ℕ, zero, suc, _+_, _%_, _≤_, _<_}
+use Prim.Native.Nat.{ℕ, zero, suc, _+_, _*_, _%_, _≤_, _<_}
 use mathlib.Core.Path.{_≡_, refl, sym, ap, _∙_}
 use mathlib.Core.Bool.{Bool, true, false, cond, not, _&&_}
 use mathlib.Core.List.{List, [], _∷_, _++_, map, append-assoc}
@@ -9,13 +9,14 @@ use lib.ListN.{length, getD}
 use borrow.Author.Tests.{eq-eqb, ne-eqb, eqb-true}
 use Rattle.counting.specs.Counting.{every, every-at}
 use Rattle.table.specs.declared.geometry.Geometry.{Geometry}
-use Rattle.table.specs.Geometry.{wordsOf}
+use Rattle.table.specs.Geometry.{wordsOf, entryWords, Placed}
 use Rattle.table.specs.Words.{invalid, currentOf, keptOf}
 use Rattle.table.specs.Changes.{changes, changeOf}
 use Rattle.table.specs.Stores.{Store, Change, Stored, StoredIn, entryStore, stateTo, valueTo, runs, runs-ext, stored-none, stored-three, stored-as, loop-starts, loop-turns}
 use Rattle.table.specs.View.{Entry, View, view, current, kept}
 use Rattle.table.specs.Pass.{pass}
 use Rattle.table.specs.PassTurns.{Local, items-turn, nodes-turn}
+use Rattle.entries.specs.Row.{row-read, row-state}
 use Rattle.checkpoints.specs.Checkpoint.{liveChanges, entriesBefore, entriesTo, changes-local, changes-live, changes-dead}
 use Rattle.recovery.specs.declared.lost.Lost.{Lost}
 use Rattle.recovery.specs.declared.lost.Lost.the-variants.{Nobody, Node}
@@ -23,7 +24,7 @@ use Rattle.recovery.specs.Survivors.{survivors}
 use Rattle.recovery.specs.Sides.{sideEvent}
 use Rattle.recovery.specs.Rolling.{bringBack, settled, rollChange}
 use Rattle.recovery.specs.SurvivorsCode.{survivor-entry}
-use Rattle.recovery.specs.Rows.{stateIn, Listed, reached, reached-start, reached-next, listed-turn, listed-end}
+use Rattle.recovery.specs.Rows.{stateIn, Listed, reached, reached-start, reached-next, listed-turn, listed-end, row-room}
 
 -- ---- one entry
 
@@ -116,6 +117,11 @@ pub record RolledNode (g : Geometry) (lost : Lost) (n : ℕ) (forward : Bool) (l
   pub stores : Stored g left (pass (λ d. n) (λ d. d) (λ d. liveChanges (rollChange forward) (survivors lost (view g t)) n d) (g .items)) t t′ left′
   pub size : length l′ ≡ length l
 
+-- what the pass over all nodes owes; of the list only its length is told
+pub record Rolled (g : Geometry) (lost : Lost) (forward : Bool) (left : ℕ) (t t′ l l′ : List ℕ) (left′ : ℕ) : Type 0 where
+  pub stores : Stored g left (entriesTo g (survivors lost (view g t)) (rollChange forward)) t t′ left′
+  pub size : length l′ ≡ length l
+
 -- a state word 0 stays
 roll-blank : (forward : Bool) (e : Entry) → e .state ≡ 0 → rollChange forward e ≡ []
 unfolding rollChange settled changeOf
@@ -143,6 +149,14 @@ module _ (g : Geometry) (n : ℕ) (forward : Bool) {left left₁ : ℕ} {t t₁ 
       loop-turns _ j s (stored-as (ap (map (entryStore n j)) (roll-blank forward (view g t .entry n j) z)) (stored-none g left₁ t₁))
 
   module _ {l : List ℕ} {count : ℕ} (o : RollListed g n t l count) (k : ℕ) (s : Stored g left (rolledTo g n forward (view g t) (reached l k)) t t₁ left₁) where
+    -- the turn's state word, at its place in the node's row
+    module _ {start : ℕ} (a : Placed g n 0 start) (h : k < count) where
+      pub listed-room : start + entryWords * getD l k 0 < length t₁
+      listed-room = omega (arith, row-room g t₁ n (o .there) a (omega (arith, o .long, s .size)), o .listed .below k h)
+
+      pub listed-state : getD t₁ (start + entryWords * getD l k 0) 0 ≡ view g t₁ .entry n (getD l k 0) .state
+      listed-state = row-read t₁ start (getD l k 0) refl refl ∙ row-state g t₁ n (o .there) a (getD l k 0) (o .listed .below k h)
+
     pub listed-next :
         k < count → {left₂ : ℕ} {t₂ : List ℕ}
         → StoredIn g left₁ n (getD l k 0) (rollChange forward (view g t₁ .entry n (getD l k 0))) t₁ t₂ left₂
@@ -195,7 +209,8 @@ module _ (change : Entry → List Change) (lost : Lost) (g : Geometry) {left lef
   unfolding entriesBefore
   survivor-node n l s r = nodes-turn (λ v. liveChanges change (survivors lost v)) (survivor-local change lost) g long n l s r
 
-pub survivors-end :
-    (g : Geometry) (w : View) (change : Entry → List Change) (n : ℕ) {left left₁ : ℕ} {t t₁ : List ℕ} → n ≤ g .nodes → g .nodes ≤ n
-    → Stored g left (entriesBefore g w change n) t t₁ left₁ → Stored g left (entriesTo g w change) t t₁ left₁
-survivors-end g w change n h k s = let e : n ≡ g .nodes = omega arith in rw e at s
+pub rolled-all :
+    (g : Geometry) (lost : Lost) (forward : Bool) (n : ℕ) {left left₁ : ℕ} {t t₁ l l₁ : List ℕ} → n ≤ g .nodes → g .nodes ≤ n
+    → length l₁ ≡ length l → Stored g left (entriesBefore g (survivors lost (view g t)) (rollChange forward) n) t t₁ left₁
+    → Rolled g lost forward left t t₁ l l₁ left₁
+rolled-all g lost forward n h k q s = let e : n ≡ g .nodes = omega arith in record { stores = rw e at s; size = q }

@@ -130,7 +130,8 @@ fn number_entry(
     let below = lower.of(number);
     let others = all.of(3 - number);
     let next = number_after(number, below, others);
-    rolling::settle(table, left, g, node, item, next)
+    let state = stores::state_at(table, g, node, item);
+    rolling::settle(table, left, g, node, item, state, next)
 }
 
 // One item, nodes ascending: its holders are counted before its first store.

@@ -75,7 +75,8 @@ fn restore(table: &mut [u64], left: u64, g: Geometry, lost: Lost, scratch: &mut 
     ensures { λ r. ⌜ StagesStored g lost left (now (table .entry)) (now (table .exit)) (now (scratch .entry)) (now (scratch .exit)) r ⌝ }
 {
     let forward = sides::forward_in(table, g, lost);
-    let left = rolling::roll(table, left, g, lost, forward);
+    let mut list: [u16; 256] = [0; 256];
+    let left = rolling::roll(table, left, g, lost, forward, &mut list);
     let left = numbering::number(table, left, g, lost);
     let left = partners::partners(table, left, g, lost, scratch);
     close(table, left, g, lost)

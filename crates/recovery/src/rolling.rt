@@ -2,16 +2,14 @@
 ghost use mathlib.Core.Path.{_≡_};
 ghost use Prim.Native.Nat.{_<_, _≤_};
 ghost use lib.ListN.{length};
-ghost use Rattle.table.specs.Geometry.{wordsOf};
+ghost use Rattle.table.specs.Geometry.{wordsOf, Placed};
 ghost use Rattle.table.specs.Stores.{Stored, StoredIn};
 ghost use Rattle.table.specs.View.{view};
 ghost use Rattle.table.specs.Pass.{pass};
 ghost use Rattle.table.specs.Changes.{changeOf};
-ghost use Rattle.checkpoints.specs.Checkpoint.{entriesTo};
-ghost use Rattle.recovery.specs.Survivors.{survivors};
 ghost use Rattle.recovery.specs.Rolling.{bringBack, settled, rollChange};
 ghost use Rattle.recovery.specs.Sides.{sideEvent};
-ghost use Rattle.recovery.specs.RollingCode.{cleared, RollListed, RolledNode};
+ghost use Rattle.recovery.specs.RollingCode.{cleared, RollListed, RolledNode, Rolled};
 use crate::lost::Lost;
 use crate::rows;
 use crate::survivors;
@@ -19,18 +17,19 @@ use table::geometry::Geometry;
 use table::stores;
 use table::words;
 
-// An entry with this current place and nothing kept: one state store where it changes.
+// An entry, whose state word is handed in, with this current place and nothing kept: one state store where it changes.
 pub(crate) fn settle(
     table: &mut [u64],
     left: u64,
     g: Geometry,
     node: u8,
     item: u16,
+    state: u64,
     next: u8,
 ) -> u64
+    requires { ⌜ state ≡ view g (now table) .entry node item .state ⌝ }
     ensures { λ r. ⌜ StoredIn g left node item (settled next (view g (now (table .entry)) .entry node item)) (now (table .entry)) (now (table .exit)) r ⌝ }
 {
-    let state = stores::state_at(table, g, node, item);
     let current = words::current_of(state);
     let kept = words::kept_of(state);
     if (next == current) & (kept == words::INVALID) {
@@ -58,10 +57,10 @@ fn clear_current(
 }
 
 // An Inv-CK comes back as the Shared-CK of its number.
-fn bring_back(table: &mut [u64], left: u64, g: Geometry, node: u8, item: u16) -> u64
+fn bring_back(table: &mut [u64], left: u64, g: Geometry, node: u8, item: u16, state: u64) -> u64
+    requires { ⌜ state ≡ view g (now table) .entry node item .state ⌝ }
     ensures { λ r. ⌜ StoredIn g left node item (bringBack (view g (now (table .entry)) .entry node item)) (now (table .entry)) (now (table .exit)) r ⌝ }
 {
-    let state = stores::state_at(table, g, node, item);
     let current = words::current_of(state);
     let kept = words::kept_of(state);
     let value = stores::kept_value_at(table, g, node, item);
@@ -85,20 +84,28 @@ fn rolled(current: u8, forward: bool) -> u8
 }
 
 // An entry as it rolls.
-fn roll_change(table: &mut [u64], left: u64, g: Geometry, node: u8, item: u16, forward: bool) -> u64
+fn roll_change(
+    table: &mut [u64],
+    left: u64,
+    g: Geometry,
+    node: u8,
+    item: u16,
+    forward: bool,
+    state: u64,
+) -> u64
+    requires { ⌜ state ≡ view g (now table) .entry node item .state ⌝ }
     ensures { λ r. ⌜ StoredIn g left node item (rollChange forward (view g (now (table .entry)) .entry node item)) (now (table .entry)) (now (table .exit)) r ⌝ }
 {
-    let state = stores::state_at(table, g, node, item);
     let current = words::current_of(state);
     let kept = words::kept_of(state);
     if !forward & !(kept == words::INVALID) {
-        return bring_back(table, left, g, node, item);
+        return bring_back(table, left, g, node, item, state);
     }
     let next = rolled(current, forward);
-    settle(table, left, g, node, item, next)
+    settle(table, left, g, node, item, state, next)
 }
 
-// A node's entries, items ascending: those in the list, for the others stay as they are.
+// A node's entries, items ascending: those in the list, for the others stay as they are. The node's first entry is at word `start`.
 fn roll_listed(
     table: &mut [u64],
     left: u64,
@@ -107,15 +114,17 @@ fn roll_listed(
     forward: bool,
     list: &[u16],
     count: usize,
+    start: usize,
 ) -> u64
-    requires { ⌜ RollListed g node (now table) (now list) count ⌝ }
+    requires { ⌜ RollListed g node (now table) (now list) count × Placed g node 0 start ⌝ }
     ensures { λ r. ⌜ Stored g left (pass (λ d. node) (λ d. d) (λ d. rollChange forward (view g (now (table .entry)) .entry node d)) (g .items)) (now (table .entry)) (now (table .exit)) r ⌝ }
 {
     let mut left = left;
     let mut k: usize = 0;
     while k < count {
         let item = list[k];
-        left = roll_change(table, left, g, node, item, forward);
+        let state = table[start + Geometry::ENTRY_WORDS * (item as usize)];
+        left = roll_change(table, left, g, node, item, forward, state);
         k += 1;
     }
     left
@@ -138,21 +147,28 @@ fn roll_node(
     if mark == 0 {
         return left;
     }
+    let start = g.entry_at(node, 0);
     let count = rows::occupied(table, g, node, list);
-    roll_listed(table, left, g, node, forward, list, count)
+    roll_listed(table, left, g, node, forward, list, count, start)
 }
 
-// All entries of the survivors, by node, then item.
-pub(crate) fn roll(table: &mut [u64], left: u64, g: Geometry, lost: Lost, forward: bool) -> u64
-    requires { ⌜ (wordsOf g ≤ length (now table)) × (g .items ≤ 256) ⌝ }
-    ensures { λ r. ⌜ Stored g left (entriesTo g (survivors lost (view g (now (table .entry)))) (rollChange forward)) (now (table .entry)) (now (table .exit)) r ⌝ }
+// All entries of the survivors, by node, then item. The list is scratch, for the occupied items of a node.
+pub(crate) fn roll(
+    table: &mut [u64],
+    left: u64,
+    g: Geometry,
+    lost: Lost,
+    forward: bool,
+    list: &mut [u16],
+) -> u64
+    requires { ⌜ (wordsOf g ≤ length (now table)) × (g .items ≤ length (now list)) ⌝ }
+    ensures { λ r. ⌜ Rolled g lost forward left (now (table .entry)) (now (table .exit)) (now (list .entry)) (now (list .exit)) r ⌝ }
 {
     let nodes = g.nodes;
-    let mut list: [u16; 256] = [0; 256];
     let mut left = left;
     let mut node: u8 = 0;
     while node < nodes {
-        left = roll_node(table, left, g, lost, node, forward, &mut list);
+        left = roll_node(table, left, g, lost, node, forward, list);
         node += 1;
     }
     left

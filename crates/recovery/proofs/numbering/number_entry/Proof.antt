@@ -19,5 +19,6 @@ number-entry-spec =
     (λ c κs. search needs)
     (λ c κs. number-fits (c .before .before .before .before .before .args .current) (c .before .before .before .checkpoint-of .ensures))
     (λ c κs. search needs)
+    (λ c κs. search needs)
     (λ c. search needs)
-    (λ c. let s = c .before .before in let n = s .before .before in let q = n .before in let p = q .before in let i = p .before in stored-as (ap (map (entryStore _ _)) (by-copy _ _ _ _ (i .before .checkpoint-of .ensures) (i .if1 .left) (p .of .ensures) (q .of2 .ensures) (n .number-after .ensures))) (s .settle .ensures)))
+    (λ c. let s = c .before .before in let n = s .before .before .before .before in let q = n .before in let p = q .before in let i = p .before in stored-as (ap (map (entryStore _ _)) (by-copy _ _ _ _ (i .before .checkpoint-of .ensures) (i .if1 .left) (p .of .ensures) (q .of2 .ensures) (n .number-after .ensures))) (s .settle .ensures)))

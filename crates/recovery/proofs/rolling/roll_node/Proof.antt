@@ -8,7 +8,7 @@ returns-2 : tie.Need-returns-2
 returns-2 c =
     let r = c .before .before in
     let o = r .before .before .before .before .before in
-    let i = o .before .before .before in
+    let i = o .before .before .before .before in
     let m = i .before in
     node-rolled _ (m .before .before .before .before .args .lost) _ _ (m .survivor-mark .ensures) (i .if1 .left) (o .occupied .ensures .size) (r .roll-listed .ensures)
 
@@ -19,6 +19,7 @@ roll-node-spec =
     (λ c κs. search needs)
     (λ c. search needs)
     (λ c. node-passed-over _ (c .before .before .before .before .before .args .lost) _ _ (c .before .survivor-mark .ensures) (c .if1 .taken))
+    (λ c κs. search needs)
     (λ c κs. search needs)
     (λ c κs. search needs)
     (λ c. search needs)

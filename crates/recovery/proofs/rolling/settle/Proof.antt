@@ -13,9 +13,7 @@ settle-spec =
     (tie.spec
     (λ c κs. search needs)
     (λ c κs. search needs)
+    (λ c. let k = c .before in let u = k .before in stored-as (ap (map (entryStore _ _)) (settle-stays _ (u .before .before .pre) (u .current-of .ensures) (k .kept-of .ensures) _ (c .if1 .taken))) (stored-none _ _ _))
     (λ c κs. search needs)
     (λ c. search needs)
-    (λ c. let k = c .before in let u = k .before in let e = u .before in stored-as (ap (map (entryStore _ _)) (settle-stays _ (e .state-at .ensures) (u .current-of .ensures) (k .kept-of .ensures) _ (c .if1 .taken))) (stored-none _ _ _))
-    (λ c κs. search needs)
-    (λ c. search needs)
-    (λ c. let s = c .before .before in let i = s .before .before in let k = i .before in let u = k .before in let e = u .before in stored-as (ap (map (entryStore _ _)) (settle-stores _ (e .state-at .ensures) (u .current-of .ensures) (k .kept-of .ensures) _ (i .if1 .left))) (s .store-state .ensures)))
+    (λ c. let s = c .before .before in let i = s .before .before in let k = i .before in let u = k .before in stored-as (ap (map (entryStore _ _)) (settle-stores _ (u .before .before .pre) (u .current-of .ensures) (k .kept-of .ensures) _ (i .if1 .left))) (s .store-state .ensures)))
