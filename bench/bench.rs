@@ -82,6 +82,8 @@ const PLOTTED: [Geometry; 7] = [
 enum Call {
     Check,
     Format(Geometry),
+    /// Against the Rust engine that fills the table with zeros first.
+    FormatFilled(Geometry),
     Read { node: u64, item: u64 },
     Write { node: u64, item: u64, value: u64 },
     Evict { node: u64, item: u64, place: u64 },
@@ -99,7 +101,7 @@ type Said = (u64, u64, u64);
 fn on_library(call: Call, table: &mut [u64], scratch: &mut [u64], limit: u64) -> Said {
     match call {
         Call::Check => (library::check(table), 0, 0),
-        Call::Format(of) => library::format(table, of.nodes, of.items, of.frames, limit),
+        Call::Format(of) | Call::FormatFilled(of) => library::format(table, of.nodes, of.items, of.frames, limit),
         Call::Read { node, item } => library::read(table, node, item, limit),
         Call::Write { node, item, value } => library::write(table, node, item, value, limit),
         Call::Evict { node, item, place } => library::evict(table, node, item, place, limit),
@@ -116,6 +118,7 @@ fn on_native(call: Call, table: &mut [u64], scratch: &mut [u64], limit: u64) -> 
     let outcome = match call {
         Call::Check => return (native::check(table), 0, 0),
         Call::Format(of) => native::format(table, of.nodes, of.items, of.frames, limit),
+        Call::FormatFilled(of) => native::format_filled(table, of.nodes, of.items, of.frames, limit),
         Call::Read { node, item } => native::read(table, node, item, limit),
         Call::Write { node, item, value } => native::write(table, node, item, value, limit),
         Call::Evict { node, item, place } => native::evict(table, node, item, place, limit),
@@ -145,7 +148,7 @@ impl Engine {
 
 // Kept calls.
 
-const SORTS: [&str; 12] = [
+const SORTS: [&str; 13] = [
     "check",
     "read, copy held",
     "read, copy fetched",
@@ -158,6 +161,7 @@ const SORTS: [&str; 12] = [
     "recover, rolled back",
     "recover, rolled forward",
     "format",
+    "format, Rust filling",
 ];
 const CHECK: usize = 0;
 const READ_HELD: usize = 1;
@@ -171,6 +175,7 @@ const ABANDON: usize = 8;
 const BACK: usize = 9;
 const FORWARD: usize = 10;
 const FORMAT: usize = 11;
+const FORMAT_FILLED: usize = 12;
 
 /// The sorts that make up an ordinary call in the plot.
 const ORDINARY: [usize; 3] = [READ_FETCHED, WRITE, EVICT];
@@ -278,6 +283,7 @@ impl Day {
         self.ordinary(3 * self.geometry.items);
         self.keep(CHECK, Call::Check);
         self.keep(FORMAT, Call::Format(self.geometry));
+        self.keep(FORMAT_FILLED, Call::FormatFilled(self.geometry));
         let lost = self.random.below(self.geometry.nodes);
         self.keep(BACK, Call::Recover { lost });
         self.save();

@@ -172,6 +172,10 @@ impl Geometry {
     }
 }
 
+const fn size_word(nodes: u64, items: u64, frames: u64) -> u64 {
+    nodes << 55 | items << 46 | frames << 36
+}
+
 #[inline]
 fn geometry_of(table: &[u64]) -> Result<Geometry, u64> {
     let first = *table.first().ok_or(TOO_SHORT)?;
@@ -493,6 +497,40 @@ pub fn format(table: &mut [u64], nodes: u64, items: u64, frames: u64, limit: u64
 /// All stores go to ascending places, each once, so the first `limit` of them are a prefix.
 fn try_format(table: &mut [u64], nodes: u64, items: u64, frames: u64, limit: u64) -> Result<Outcome, u64> {
     let geometry = Geometry::new(nodes, items, frames).ok_or(NO_GEOMETRY)?;
+    let table = table.get_mut(..geometry.words()).ok_or(TOO_SHORT)?;
+    let mut pen = Pen::new(table, limit);
+    pen.store(0, size_word(nodes, items, frames));
+    for node in 0..geometry.nodes {
+        pen.store(1 + node, mark(RUNNING, 0));
+    }
+    let mut place = 1 + geometry.nodes;
+    for node in 0..geometry.nodes {
+        let mut first = 0;
+        for _ in 0..geometry.items {
+            let second = wrapped(first + 1, geometry.nodes);
+            let current = match node {
+                _ if node == first => SHARED_CK1,
+                _ if node == second => SHARED_CK2,
+                _ => INVALID,
+            };
+            pen.store(place, state(current, 0));
+            pen.store(place + 1, 0);
+            pen.store(place + 2, 0);
+            place += 3;
+            first = wrapped(first + 2, geometry.nodes);
+        }
+    }
+    pen.done(0)
+}
+
+/// Format in fewer instructions, but not in document 01's order of stores: zeros everywhere, and the
+/// words that are not 0 put over them.
+pub fn format_filled(table: &mut [u64], nodes: u64, items: u64, frames: u64, limit: u64) -> Outcome {
+    outcome(try_format_filled(table, nodes, items, frames, limit))
+}
+
+fn try_format_filled(table: &mut [u64], nodes: u64, items: u64, frames: u64, limit: u64) -> Result<Outcome, u64> {
+    let geometry = Geometry::new(nodes, items, frames).ok_or(NO_GEOMETRY)?;
     if table.len() < geometry.words() {
         return Err(TOO_SHORT);
     }
@@ -500,7 +538,7 @@ fn try_format(table: &mut [u64], nodes: u64, items: u64, frames: u64, limit: u64
     let prefix = &mut table[..made as usize];
     prefix.fill(0);
     if let Some((first, rest)) = prefix.split_first_mut() {
-        *first = nodes << 55 | items << 46 | frames << 36;
+        *first = size_word(nodes, items, frames);
         rest.iter_mut().take(geometry.nodes).for_each(|word| *word = mark(RUNNING, 0));
     }
     let (mut first, mut second) = (0, 1);
