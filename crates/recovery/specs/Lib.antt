@@ -27,6 +27,9 @@ pub mod Notes
 pub mod Rows
 pub mod RowsSound
 pub mod Tallies
+pub mod Census
+pub mod CensusEntry
+pub mod CensusLaws
 pub mod RollingCode
 pub mod NumberingCode
 pub mod Followed
@@ -51,6 +54,7 @@ pub mod NumberItem
 pub mod NumberVia
 pub mod PartnerFound
 pub mod StagedVia
+pub mod CensusRolled
 pub mod PartnerVia
 pub mod Largest
 pub mod ClosingVia
@@ -61,6 +65,7 @@ pub mod RecoverOff
 pub mod RecoverTheorem
 pub mod DeadName
 pub mod AnyTable
+pub mod PairsCode
 -- ---- every cut of every other call leaves survivors what they must have
 pub mod Surviving
 pub mod Standing

@@ -8,10 +8,10 @@ use native.Mathlib.Decide.{ℕ-discrete}
 use native.Mathlib.Numerals.{add-one}
 use lib.Dec.{eqb, ltb}
 use lib.ListN.{length, getD, set, drop, length-set}
-use lib.Seq.{drop-set-lt}
+use lib.Seq.{drop-set-lt, getD-set-same, getD-set-other}
 use borrow.Author.Tests.{eq-eqb, ne-eqb, eqb-true, ltb-true, lt-ltb, le-ltb}
 use Rattle.counting.specs.Tests.{both, no-both, by-cases}
-use Rattle.counting.specs.Counting.{Counted, count, only}
+use Rattle.counting.specs.Counting.{count, only}
 use Rattle.counting.specs.First.{first, first-turns, first-found, first-ends, first-le, first-least, first-passes, first-ext}
 use Rattle.table.specs.declared.geometry.Geometry.{Geometry}
 use Rattle.table.specs.Geometry.{wordsOf}
@@ -142,16 +142,7 @@ module _ (lost : Lost) (v : View) (b n : ℕ) {mark : ℕ} (h : mark ≡ survivo
     unfolding takesBy
     takes-live e p q r k = rw (← h, ne-eqb mark 0 e, survivor-entry lost v, q, p, r, k) refl
 
--- ---- the copies of an item: how many, and the first
-
-pub one-yes : {a b : Bool} → a ≡ b → a ≡ true → Counted b 1
-one-yes h e = record { is = rw (← h, e) refl; small = omega arith }
-
-pub one-no : {a b : Bool} → a ≡ b → a ≡ false → Counted b 0
-one-no h e = record { is = rw (← h, e) refl; small = omega arith }
-
-pub copies-end : (p : ℕ → Bool) (n m : ℕ) {a : ℕ} → a ≡ count p n → n ≤ m → m ≤ n → a ≡ count p m
-copies-end p n m h k l = h ∙ ap (count p) (omega arith)
+-- ---- the first copy of an item
 
 module _ (w : View) (b i : ℕ) (so : first (copy w b) i ≡ i) where
   module _ {found : Bool} (q : found ≡ copy w b i) where
@@ -285,26 +276,49 @@ holder-there g w b e =
       | no q ↦ omega arith
     ]
 
-pub item-holder :
-    (g : Geometry) (w : View) (b : ℕ) {copies h : ℕ} → copies ≡ count (copy w b) (g .nodes) → copies ≡ 1 → h ≡ holderOf g w b → h < g .nodes
-item-holder g w b c e q = rw q (holder-there g w b (sym c ∙ e))
-
-module _ (g : Geometry) (lost : Lost) (b : ℕ) {copies : ℕ} {t s : List ℕ}
-    (c : copies ≡ count (copy (survivors lost (view g t)) b) (g .nodes)) where
+-- while anything is left of the limit the item has one copy; so far as nothing is left nothing is stored, whatever it has
+module _ (g : Geometry) (lost : Lost) (b : ℕ) {left : ℕ} {t s : List ℕ}
+    (one : (left ≡ 0 → ⊥) → count (copy (survivors lost (view g t)) b) (g .nodes) ≡ 1) {h : ℕ} (q : h ≡ holderOf g (survivors lost (view g t)) b) where
   pub item-single :
-      copies ≡ 1 → {h left left′ : ℕ} {t′ s′ : List ℕ} → h ≡ holderOf g (survivors lost (view g t)) b
-      → Turned g lost (λ w. partnerFrom g w b h) left t t′ s s′ left′ → Turned g lost (partnerStores g b) left t t′ s s′ left′
+      {left′ : ℕ} {t′ s′ : List ℕ} → Turned g lost (λ w. partnerFrom g w b h) left t t′ s s′ left′
+      → Turned g lost (partnerStores g b) left t t′ s s′ left′
   unfolding partnerStores single
-  item-single e q r = record {
-    stores = rw (← c, eq-eqb copies 1 e, ← q) (r .stores);
+  item-single r = record {
+    stores = elim (ℕ-discrete left 0) [
+      | yes z ↦ (let r′ = rw z at (r .stores) in rw z (stored-any (partnerStores g b (survivors lost (view g t))) r′))
+      | no z ↦ rw (eq-eqb _ 1 (one z), ← q) (r .stores)
+    ];
     counts = r .counts;
     rest = r .rest;
     size = r .size;
   }
 
-  pub item-other : (copies ≡ 1 → ⊥) → {left : ℕ} → Counts g lost left t s → Turned g lost (partnerStores g b) left t t s s left
-  unfolding partnerStores single
-  item-other e {left} k = record { stores = rw (← c, ne-eqb copies 1 e) (stored-none g left t); counts = k; rest = refl; size = refl }
+  pub item-none : g .nodes ≤ h → Counts g lost left t s → Turned g lost (partnerStores g b) left t t s s left
+  item-none l k = record {
+    stores = elim (ℕ-discrete left 0) [
+      | yes z ↦ rw z (stored-any (partnerStores g b (survivors lost (view g t))) (stored-none g 0 t))
+      | no z ↦ absurd (let m = holder-there g (survivors lost (view g t)) b (one z) in omega arith)
+    ];
+    counts = k;
+    rest = refl;
+    size = refl;
+  }
+
+-- an item that has no single copy
+pub item-other :
+    (g : Geometry) (lost : Lost) (b : ℕ) {left : ℕ} {t s : List ℕ}
+    → ((left ≡ 0 → ⊥) → count (copy (survivors lost (view g t)) b) (g .nodes) ≡ 1 → ⊥)
+    → Counts g lost left t s → Turned g lost (partnerStores g b) left t t s s left
+unfolding partnerStores single
+item-other g lost b {left} {t} {s} e k = record {
+  stores = elim (ℕ-discrete left 0) [
+    | yes z ↦ rw z (stored-any (partnerStores g b (survivors lost (view g t))) (stored-none g 0 t))
+    | no z ↦ rw (ne-eqb _ 1 (e z)) (stored-none g left t)
+  ];
+  counts = k;
+  rest = refl;
+  size = refl;
+}
 
 -- ---- all items
 
@@ -391,6 +405,29 @@ module _ (g : Geometry) (w : View) {s : List ℕ} where
 
   pub filled-end : (k : ℕ) {s₁ : List ℕ} → k ≤ g .nodes → g .nodes ≤ k → Filled g w k s s₁ → Filled g w (g .nodes) s s₁
   filled-end k h l f = let e : k ≡ g .nodes = omega arith in rw e at f
+
+-- the first k words of the scratch are those of u; its words from n on are as they were
+pub record FilledFrom (n k : ℕ) (u s s′ : List ℕ) : Type 0 where
+  pub same : (i : ℕ) → i < k → getD s′ i 0 ≡ getD u i 0
+  pub rest : drop n s′ ≡ drop n s
+  pub size : length s′ ≡ length s
+
+module _ (n : ℕ) (u : List ℕ) {s : List ℕ} where
+  pub from-start : FilledFrom n 0 u s s
+  from-start = record { same = λ i l. absurd (omega arith); rest = refl; size = refl }
+
+  pub from-turn : (k : ℕ) {x : ℕ} {s₁ : List ℕ} → k < n → n ≤ length s → x ≡ getD u k 0 → FilledFrom n k u s s₁ → FilledFrom n (k + 1) u s (set s₁ k x)
+  from-turn k {x} {s₁} l room e f = record {
+    same = λ i h. elim (ℕ-discrete i k) [
+      | yes q ↦ rw q (getD-set-same s₁ k x 0 (omega (arith, f .size)) ∙ e)
+      | no q ↦ getD-set-other s₁ k i x 0 q ∙ f .same i (omega arith)
+    ];
+    rest = drop-set-lt n s₁ k x l ∙ f .rest;
+    size = length-set s₁ k x ∙ f .size;
+  }
+
+  pub from-end : (k : ℕ) {s₁ : List ℕ} → k ≤ n → n ≤ k → FilledFrom n k u s s₁ → FilledFrom n n u s s₁
+  from-end k h l f = let e : k ≡ n = omega arith in rw e at f
 
 -- the scratch is filled, and then the items
 module _ (g : Geometry) (lost : Lost) {left : ℕ} {t s s₁ : List ℕ} (f : Filled g (survivors lost (view g t)) (g .nodes) s s₁) where

@@ -148,24 +148,50 @@ not-single g w b {tally} small e h one-copy =
     let y = not-zero (tally / 1024) (t .1) in
     omega (arith, tally-shares w b (g .nodes), shares-le w b 4 (g .nodes), shares-has w b 4 (g .nodes), shares-has w b 5 (g .nodes), holders-copies w b (g .nodes))
 
--- what an item's turn needs: by its tally it may have no single copy
+-- while anything is left of the limit: an item has one copy
+pub record Single (g : Geometry) (lost : Lost) (left : ℕ) (t : List ℕ) (b : ℕ) : Type 0 where
+  pub one : (left ≡ 0 → ⊥) → count (copy (survivors lost (view g t)) b) (g .nodes) ≡ 1
+
+-- an item without a holder of each number has a single copy: so it is once numbering is done
+abbrev pub Settled : Geometry → View → Type 0
+Settled g w = (b : ℕ) → b < g .items → skips (sum (weightIn w b) (g .nodes)) ≡ false → count (copy w b) (g .nodes) ≡ 1
+
+pub record Settles (g : Geometry) (lost : Lost) (left : ℕ) (t : List ℕ) : Type 0 where
+  pub settled : (left ≡ 0 → ⊥) → Settled g (survivors lost (view g t))
+
+-- what an item's turn needs: by its tally it has no single copy, or has one
 pub record Passable (g : Geometry) (lost : Lost) (left : ℕ) (t s : List ℕ) (b tally : ℕ) : Type 0 where
   pub ready : Ready g lost left t s
   pub there : b < g .items
-  pub skip : skips tally ≡ true → count (copy (survivors lost (view g t)) b) (g .nodes) ≡ 1 → ⊥
+  pub skip : (left ≡ 0 → ⊥) → skips tally ≡ true → count (copy (survivors lost (view g t)) b) (g .nodes) ≡ 1 → ⊥
+  pub single : skips tally ≡ false → Single g lost left t b
+
+-- what all of them need
+pub record Tallying (g : Geometry) (lost : Lost) (left : ℕ) (t s : List ℕ) : Type 0 where
+  pub tallied : (left ≡ 0 → ⊥) → Tallied g (survivors lost (view g t)) (g .nodes) s
+  pub settled : (left ≡ 0 → ⊥) → Settled g (survivors lost (view g t))
 
 pub turn-skipped :
     (g : Geometry) (lost : Lost) {left b tally : ℕ} {t s : List ℕ} → Passable g lost left t s b tally → skips tally ≡ true
     → Turned g lost (partnerStores g b) left t t s s left
-turn-skipped g lost {left} {b} {tally} {t} {s} p h = item-other g lost b refl (p .skip h) (p .ready .counts)
+turn-skipped g lost {left} {b} {tally} {t} {s} p h = item-other g lost b (λ z. p .skip z h) (p .ready .counts)
 
 pub turn-ready :
     (g : Geometry) (lost : Lost) (i : ℕ) {left left₁ tally : ℕ} {t t₁ s s₁ tallies : List ℕ} → Ready g lost left t s → i < g .items → g .nodes < 256
-    → Tallied g (survivors lost (view g t)) (g .nodes) tallies → tally ≡ getD tallies i 0
+    → Tallying g lost left t tallies → tally ≡ getD tallies i 0
     → Turned g lost (staged (partnerStores g) i) left t t₁ s s₁ left₁ → Passable g lost left₁ t₁ s₁ i tally
-turn-ready g lost i {t = t} {t₁} k h small u e r = record {
+turn-ready g lost i {left} {left₁} {tally} {t} {t₁} k h small u e r = record {
   ready = items-ready g lost i r k;
   there = h;
-  skip = λ p q. not-single g (survivors lost (view g t)) i small (e ∙ u .at i h) p
-      (sym (copies-stay g i (before-staged g i i (survivors lost (view g t)) (omega arith) (omega arith)) (r .stores) lost i h (omega arith)) ∙ q);
+  skip = λ z p q. not-single g (survivors lost (view g t)) i small (told z) p (sym stays ∙ q);
+  single = λ p. record { one = λ z. stays ∙ u .settled (more z) i h (ap skips (sym (told z)) ∙ p) };
 }
+  where
+    more : (left₁ ≡ 0 → ⊥) → left ≡ 0 → ⊥
+    more z q = z (omega (arith, r .stores .rest))
+
+    told : (left₁ ≡ 0 → ⊥) → tally ≡ sum (weightIn (survivors lost (view g t)) i) (g .nodes)
+    told z = e ∙ u .tallied (more z) .at i h
+
+    stays : count (copy (survivors lost (view g t₁)) i) (g .nodes) ≡ count (copy (survivors lost (view g t)) i) (g .nodes)
+    stays = copies-stay g i (before-staged g i i (survivors lost (view g t)) (omega arith) (omega arith)) (r .stores) lost i h (omega arith)

@@ -4,10 +4,9 @@ use mathlib.Core.Path.{_≡_, refl, sym, ap, _∙_}
 use mathlib.Core.Bool.{Bool, true, false, not}
 use mathlib.Core.List.{List, _++_}
 use native.Mathlib.Omega.{arith}
-use lib.ListN.{length, replicate, drop}
+use lib.ListN.{length, replicate, drop, getD, length-replicate, getD-replicate}
 use lib.Seq.{drop-drop}
 use borrow.Author.Tests.{lt-ltb, le-ltb}
-use Rattle.counting.specs.Counting.{every}
 use Rattle.table.specs.declared.geometry.Geometry.{Geometry}
 use Rattle.table.specs.declared.answers.Refusal.{Refusal}
 use Rattle.table.specs.declared.answers.Refusal.the-variants.{NotSound, NoNode, TooFewNodes, NoRecoveryCopy, ShortScratch}
@@ -20,22 +19,21 @@ use Rattle.table.specs.Answers.{Plan, refuse, carry, Meets, meets-refused, meet
 use Rattle.entries.specs.declared.check.Checked.{Checked}
 use Rattle.entries.specs.declared.check.Checked.the-variants.{Passed, Failed}
 use Rattle.entries.specs.Check.{sizesOf}
-use Rattle.entries.specs.CheckFacts.{sizes-facts}
+use Rattle.entries.specs.CheckFacts.{sizes-surveyable}
+use Rattle.entries.specs.SurveySound.{Surveyable}
 use Rattle.homes.specs.declared.admission.Admission.{Admission}
 use Rattle.homes.specs.declared.admission.Admission.the-variants.{Admitted, Turned}
 use Rattle.homes.specs.Plans.{planAdmitted}
-use Rattle.checkpoints.specs.Checkpoint.{entriesTo}
 use Rattle.recovery.specs.declared.lost.Lost.{Lost}
+use Rattle.recovery.specs.declared.census.Census.{Census}
 use Rattle.recovery.specs.Survivors.{lostStores, survivors, lostOutside}
-use Rattle.recovery.specs.Sides.{forwardIn, itemFits}
-use Rattle.recovery.specs.SidesCode.{fits-chosen}
-use Rattle.recovery.specs.Rolling.{rollChange}
-use Rattle.recovery.specs.Numbering.{numberStores}
-use Rattle.recovery.specs.Partners.{partnersStores}
-use Rattle.recovery.specs.PartnersCode.{Turned as PartnersTurned}
+use Rattle.recovery.specs.Sides.{forwardIn, itemsFit}
 use Rattle.recovery.specs.ClosingMarks.{closingStores}
-use Rattle.recovery.specs.RecoverPlan.{recover-carries}
-use Rattle.recovery.specs.RecoverStages.{survivors-stored, recover-stored}
+use Rattle.recovery.specs.RecoverPlan.{admission-admits}
+use Rattle.recovery.specs.RecoverStages.{survivors-same, lost-stores-within, survivors-stored, recover-stored}
+use Rattle.recovery.specs.RollingCode.{Rolled}
+use Rattle.recovery.specs.Census.{Taken}
+use Rattle.recovery.specs.PairsCode.{Restorable, Pairable, Pairs, rolled-pairable}
 use Rattle.recovery.specs.Recover.{survivorStores, recoverStores, scratchWords, survivorsFormed, tooFew, recoverAdmission, recoverChecked, recoverOf, scratchAfter}
 
 -- ---- definitions
@@ -56,6 +54,29 @@ pub record Carriable (g : Geometry) (lost : Lost) (t s : List ℕ) : Type 0 wher
   pub room : scratchWords g ≤ length s
   pub inside : lostOutside g lost ≡ false
   pub items : g .items ≤ 256
+
+-- a list, tallies and first values that are long enough, the latter two zero
+pub record Roomy (g : Geometry) (l s f : List ℕ) : Type 0 where
+  pub list-room : g .items ≤ length l
+  pub tallies-room : g .items ≤ length s
+  pub firsts-room : g .items ≤ length f
+  pub tallies-zero : (j : ℕ) → j < g .items → getD s j 0 ≡ 0
+  pub firsts-zero : (j : ℕ) → j < g .items → getD f j 0 ≡ 0
+
+-- what the stores need, and what those on the survivors need: room, and what the census told
+pub record StoresReady (g : Geometry) (lost : Lost) (forward plain : Bool) (t s l tallies u : List ℕ) : Type 0 where
+  pub carriable : Carriable g lost t s
+  pub list-room : g .items ≤ length l
+  pub used-room : g .nodes ≤ length u
+  pub known : Restorable g forward plain (survivors lost (view g t)) tallies u
+
+pub record RestoreReady (g : Geometry) (lost : Lost) (forward plain : Bool) (t s l tallies u : List ℕ) : Type 0 where
+  pub long : wordsOf g ≤ length t
+  pub room : g .nodes ≤ length s
+  pub items : g .items ≤ 256
+  pub list-room : g .items ≤ length l
+  pub used-room : g .nodes ≤ length u
+  pub known : Restorable g forward plain (survivors lost (view g t)) tallies u
 
 -- ---- the refusals, one by one
 
@@ -79,45 +100,76 @@ module _ (g : Geometry) (w : View) (lost : Lost) (scratch : ℕ) {outside : Bool
         unfolding recoverAdmission
         admit-few e = rw (← p, p′, le-ltb scratch (scratchWords g) (omega arith), ← r, r′, ← s, e) refl
 
-        module _ (s′ : few ≡ false) {forward fit : Bool} (f : forward ≡ forwardIn g w) (u : fit ≡ every (itemFits g forward w) (g .items)) where
+        module _ (s′ : few ≡ false) {fit : Bool} (u : fit ≡ itemsFit g w) where
           pub admit-unfit : not fit ≡ true → Turned NoRecoveryCopy ≡ recoverAdmission g w lost scratch
           unfolding recoverAdmission
-          admit-unfit e = rw (← p, p′, le-ltb scratch (scratchWords g) (omega arith), ← r, r′, ← s, s′, ← fits-chosen g w f u, e) refl
+          admit-unfit e = rw (← p, p′, le-ltb scratch (scratchWords g) (omega arith), ← r, r′, ← s, s′, ← u, e) refl
 
           pub admit-all : not fit ≡ false → Admitted ≡ recoverAdmission g w lost scratch
           unfolding recoverAdmission
-          admit-all e = rw (← p, p′, le-ltb scratch (scratchWords g) (omega arith), ← r, r′, ← s, s′, ← fits-chosen g w f u, e) refl
+          admit-all e = rw (← p, p′, le-ltb scratch (scratchWords g) (omega arith), ← r, r′, ← s, s′, ← u, e) refl
+
+-- ---- room
+
+pub roomy-zeros : (g : Geometry) (k : ℕ) → g .items ≤ k → Roomy g (replicate k 0) (replicate k 0) (replicate k 0)
+roomy-zeros g k h = record {
+  list-room = rw (length-replicate {A = ℕ} k 0) h;
+  tallies-room = rw (length-replicate {A = ℕ} k 0) h;
+  firsts-room = rw (length-replicate {A = ℕ} k 0) h;
+  tallies-zero = λ j l. getD-replicate k j 0 0 (omega arith);
+  firsts-zero = λ j l. getD-replicate k j 0 0 (omega arith);
+}
 
 -- ---- the plan
 
-pub recover-sized : (t : List ℕ) {c : Checked} {g : Geometry} → c ≡ sizesOf t → c ≡ Passed g → (wordsOf g ≤ length t) × (g .items ≤ 256)
-recover-sized t {c} {g} e h = let f = sizes-facts t g (sym e ∙ h) in (f .long, f .sizes .items-high)
+pub recover-sized : (t : List ℕ) {c : Checked} {g : Geometry} → c ≡ sizesOf t → c ≡ Passed g → Surveyable g t
+recover-sized t {c} {g} e h = sizes-surveyable t g (sym e ∙ h)
 
 module _ (t : List ℕ) (lost : Lost) (scratch : ℕ) {c : Checked} (e : c ≡ sizesOf t) where
+  recover-as : {d : Checked} → c ≡ d → recoverOf t lost scratch ≡ recoverChecked t lost scratch d
+  unfolding recoverOf
+  recover-as h = ap (recoverChecked t lost scratch) (sym e ∙ h)
+
   pub recover-failed : {x : Refusal} → c ≡ Failed x → recoverOf t lost scratch ≡ refuse x
-  unfolding recoverOf recoverChecked
-  recover-failed h = ap (recoverChecked t lost scratch) (sym e ∙ h)
+  unfolding recoverChecked
+  recover-failed h = recover-as h
 
-  module _ {g : Geometry} (h : c ≡ Passed g) {a : Admission} (k : a ≡ recoverAdmission g (survivors lost (view g t)) lost scratch) where
-    passed-plan : {b : Admission} → a ≡ b → recoverOf t lost scratch ≡ planAdmitted b (carry g 0 (recoverStores g lost (view g t)))
-    unfolding recoverOf recoverChecked
-    passed-plan q =
-        ap (recoverChecked t lost scratch) (sym e ∙ h)
-        ∙ ap (λ b. planAdmitted b (carry g 0 (recoverStores g lost (view g t)))) (sym k ∙ q)
+  pub recover-passed :
+      {g : Geometry} → c ≡ Passed g → {limit : ℕ} {t₀ t′ s s′ : List ℕ} {r : Answer}
+      → RecoverMeets (recoverChecked t lost scratch (Passed g)) limit t₀ t′ s s′ r → RecoverMeets (recoverOf t lost scratch) limit t₀ t′ s s′ r
+  recover-passed h m = rw (recover-as h) m
 
-    pub recover-turned : {x : Refusal} → a ≡ Turned x → recoverOf t lost scratch ≡ refuse x
-    unfolding planAdmitted
-    recover-turned q = passed-plan q
+module _ (t : List ℕ) (lost : Lost) (scratch : ℕ) (g : Geometry) {a : Admission} (k : a ≡ recoverAdmission g (survivors lost (view g t)) lost scratch) where
+  pub recover-turned : {x : Refusal} → a ≡ Turned x → recoverChecked t lost scratch (Passed g) ≡ refuse x
+  unfolding recoverChecked planAdmitted
+  recover-turned q = ap (λ b. planAdmitted b (carry g 0 (recoverStores g lost (view g t)))) (sym k ∙ q)
 
-    pub recover-admitted : a ≡ Admitted → recoverOf t lost scratch ≡ carry g 0 (recoverStores g lost (view g t))
-    unfolding planAdmitted
-    recover-admitted q = passed-plan q
+  module _ (q : a ≡ Admitted) where
+    pub recover-admitted : recoverChecked t lost scratch (Passed g) ≡ carry g 0 (recoverStores g lost (view g t))
+    unfolding recoverChecked planAdmitted
+    recover-admitted = ap (λ b. planAdmitted b (carry g 0 (recoverStores g lost (view g t)))) (sym k ∙ q)
 
-    pub recover-carriable : a ≡ Admitted → (s : List ℕ) → scratch ≡ length s → Carriable g lost t s
-    recover-carriable q s n =
-        let r = recover-carries t lost scratch (recover-admitted q) in
-        let f = sizes-facts t g (sym e ∙ h) in
-        record { long = f .long; room = omega (arith, r .enough); inside = r .inside; items = f .sizes .items-high }
+    -- with what the census told
+    pub recover-ready :
+        {forward : Bool} {l s tallies u : List ℕ} {r : Census} → Surveyable g t → scratch ≡ length s → g .items ≤ length l
+        → forward ≡ forwardIn g (survivors lost (view g t)) → Taken g forward (survivors lost (view g t)) tallies u r
+        → StoresReady g lost forward (r .plain) t s l tallies u
+    recover-ready z n room way c =
+        let f = admission-admits g (survivors lost (view g t)) lost scratch (sym k ∙ q) in
+        record {
+          carriable = record { long = z .words; room = omega (arith, f .enough); inside = f .inside; items = z .items };
+          list-room = room;
+          used-room = c .used-room;
+          known = record {
+            way = way;
+            formed = f .formed;
+            fit = f .fit;
+            tally = c .tally;
+            tallies-room = c .tallies-room;
+            held = c .held;
+            plain-told = c .plain;
+          };
+        }
 
 -- ---- carried out
 
@@ -127,15 +179,34 @@ pub record StagesStored (g : Geometry) (lost : Lost) (left : ℕ) (t t′ s s′
   pub rest : drop (g .nodes) s′ ≡ drop (g .nodes) s
   pub size : length s′ ≡ length s
 
-pub restored :
-    (g : Geometry) (lost : Lost) {forward : Bool} {l l₁ l₂ l₃ l₄ : ℕ} {t t₁ t₂ t₃ t₄ s s′ : List ℕ} → wordsOf g ≤ length t
-    → forward ≡ forwardIn g (survivors lost (view g t))
-    → Stored g l (entriesTo g (survivors lost (view g t)) (rollChange forward)) t t₁ l₁
-    → Stored g l₁ (numberStores g (survivors lost (view g t₁))) t₁ t₂ l₂
-    → PartnersTurned g lost (partnersStores g) l₂ t₂ t₃ s s′ l₃
-    → Stored g l₃ (closingStores g (survivors lost (view g t₃))) t₃ t₄ l₄
-    → StagesStored g lost l t t₄ s s′ l₄
-restored g lost long way a b c d = record { stores = survivors-stored g lost long way a b (c .stores) d; rest = c .rest; size = c .size }
+-- after the lost mark
+pub restore-ready :
+    (g : Geometry) (lost : Lost) {forward plain : Bool} (left : ℕ) {left₁ : ℕ} {t t₁ s l tallies u : List ℕ} → StoresReady g lost forward plain t s l tallies u
+    → Stored g left (lostStores lost) t t₁ left₁ → RestoreReady g lost forward plain t₁ s l tallies u
+restore-ready g lost left r a =
+    let c = r .carriable in
+    record {
+      long = omega (arith, c .long, a .size);
+      room = omega (arith, c .room);
+      items = c .items;
+      list-room = r .list-room;
+      used-room = r .used-room;
+      known = rw (survivors-same lost left (c .long) (lost-stores-within g lost (c .inside)) a) (r .known);
+    }
+
+module _ (g : Geometry) (lost : Lost) {forward plain : Bool} {left left₁ : ℕ} {t t₁ s l l′ tallies u : List ℕ} (r : RestoreReady g lost forward plain t s l tallies u)
+    (a : Rolled g lost forward left t t₁ l l′ left₁) where
+  pub restore-pairable : g .nodes < 256 → Pairable g lost left₁ plain t₁ s tallies u
+  restore-pairable small = rolled-pairable g lost (r .long) (r .room) (r .items) (r .used-room) small (r .known) (a .stores)
+
+  pub restored :
+      {left₂ left₃ : ℕ} {t₂ t₃ s′ : List ℕ} → Pairs g lost left₁ t₁ t₂ s s′ left₂ → Stored g left₂ (closingStores g (survivors lost (view g t₂))) t₂ t₃ left₃
+      → StagesStored g lost left t t₃ s s′ left₃
+  restored b d = record {
+    stores = survivors-stored g lost (r .long) (r .known .way) (a .stores) (b .numbered) (b .partnered .stores) d;
+    rest = b .partnered .rest;
+    size = b .partnered .size;
+  }
 
 -- the words past the first N are as they were, so those past the first M + N are
 rest-same : (g : Geometry) (s s′ : List ℕ) → drop (g .nodes) s′ ≡ drop (g .nodes) s → drop (scratchWords g) s′ ≡ drop (scratchWords g) s

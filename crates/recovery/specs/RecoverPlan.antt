@@ -10,7 +10,7 @@ use Rattle.table.specs.declared.geometry.Geometry.{Geometry}
 use Rattle.table.specs.declared.answers.Refusal.{Refusal}
 use Rattle.table.specs.declared.answers.Refusal.the-variants.{NotSound, NoNode, TooFewNodes, NoRecoveryCopy, ShortScratch}
 use Rattle.table.specs.Stores.{Store}
-use Rattle.table.specs.View.{view}
+use Rattle.table.specs.View.{View, view}
 use Rattle.table.specs.Answers.{Plan, refuse, carry}
 use Rattle.entries.specs.declared.check.Checked.{Checked}
 use Rattle.entries.specs.declared.check.Checked.the-variants.{Passed, Failed}
@@ -57,9 +57,27 @@ unfolding planAdmitted
 passes true r b p h = record { number = r; plan = refl }
 passes false r b p h = h
 
+-- none of the refusals holds
+pub record Admits (g : Geometry) (w : View) (lost : Lost) (scratch : ℕ) : Type 0 where
+  pub inside : lostOutside g lost ≡ false
+  pub enough : scratchWords g ≤ scratch
+  pub formed : survivorsFormed g w ≡ true
+  pub enoughNodes : tooFew g w ≡ false
+  pub fit : itemsFit g w ≡ true
+
+pub admission-admits : (g : Geometry) (w : View) (lost : Lost) (scratch : ℕ) → recoverAdmission g w lost scratch ≡ Admitted → Admits g w lost scratch
+unfolding recoverAdmission
+admission-admits g w lost scratch q =
+    let (a, e₁) = next (lostOutside g lost) NoNode _ q in
+    let (b, e₂) = next (ltb scratch (scratchWords g)) ShortScratch _ e₁ in
+    let (c, e₃) = next (not (survivorsFormed g w)) NotSound _ e₂ in
+    let (d, e₄) = next (tooFew g w) TooFewNodes _ e₃ in
+    let (f, _) = next (not (itemsFit g w)) NoRecoveryCopy _ e₄ in
+    record { inside = a; enough = ltb-false _ _ b; formed = not-false _ c; enoughNodes = d; fit = not-false _ f }
+
 module _ (t : List ℕ) (lost : Lost) (scratch : ℕ) where
   pub recover-carries : {g : Geometry} {x : ℕ} {ss : List Store} → recoverOf t lost scratch ≡ carry g x ss → Carries t lost scratch g ss
-  unfolding recoverOf recoverChecked recoverAdmission
+  unfolding recoverOf recoverChecked
   recover-carries {g} {x} {ss} e = go (sizesOf t) refl e
     where
       go : (c : Checked) → c ≡ sizesOf t → recoverChecked t lost scratch c ≡ carry g x ss → Carries t lost scratch g ss
@@ -67,20 +85,16 @@ module _ (t : List ℕ) (lost : Lost) (scratch : ℕ) where
       go (Passed h) p e =
           let w = survivors lost (view h t) in
           let (q, e₀) = admitted-plan (recoverAdmission h w lost scratch) e in
-          let (a, e₁) = next (lostOutside h lost) NoNode _ q in
-          let (b, e₂) = next (ltb scratch (scratchWords h)) ShortScratch _ e₁ in
-          let (c, e₃) = next (not (survivorsFormed h w)) NotSound _ e₂ in
-          let (d, e₄) = next (tooFew h w) TooFewNodes _ e₃ in
-          let (f, _) = next (not (itemsFit h w)) NoRecoveryCopy _ e₄ in
+          let f = admission-admits h w lost scratch q in
           let same : h ≡ g = cc in
           let list : recoverStores h lost (view h t) ≡ ss = cc in
           rw (← same) (record {
             passed = sym p;
-            inside = a;
-            enough = ltb-false _ _ b;
-            formed = not-false _ c;
-            enoughNodes = d;
-            fit = not-false _ f;
+            inside = f .inside;
+            enough = f .enough;
+            formed = f .formed;
+            enoughNodes = f .enoughNodes;
+            fit = f .fit;
             stores-are = sym list;
           })
 

@@ -34,21 +34,21 @@ use Rattle.recovery.specs.ClosingMarksCode.{lost-within}
 
 -- ---- the stages store in entries that are there
 
-entered-roll : (g : Geometry) (w : View) → All (Entered g) (rollStores g w)
+pub entered-roll : (g : Geometry) (w : View) → All (Entered g) (rollStores g w)
 unfolding rollStores entriesBefore
 entered-roll g w =
     entered-pass g (λ k. k / g .items) (λ k. k % g .items) (λ k. liveChanges (rollChange (forwardIn g w)) w (k / g .items) (k % g .items))
     (g .nodes * g .items) (grid-within g)
 
 -- "items ascending, then node"
-column-within : (g : Geometry) (k : ℕ) → k < g .items * g .nodes → (k % g .nodes < g .nodes) × (k / g .nodes < g .items)
+pub column-within : (g : Geometry) (k : ℕ) → k < g .items * g .nodes → (k % g .nodes < g .nodes) × (k / g .nodes < g .items)
 column-within g k h =
     elim (decLt 0 (g .nodes)) [
       | yes s ↦ (mod-lt k s, div-lt-iff-lt-mul s .1 h)
       | no s ↦ absurd (let z : g .nodes ≡ 0 = omega arith in let h′ : k < g .items * 0 = rw z at h in omega arith)
     ]
 
-entered-number : (g : Geometry) (w : View) → All (Entered g) (numberStores g w)
+pub entered-number : (g : Geometry) (w : View) → All (Entered g) (numberStores g w)
 unfolding numberStores
 entered-number g w =
     entered-pass g (λ k. k % g .nodes) (λ k. k / g .nodes) (λ k. numberChange g w (k % g .nodes) (k / g .nodes)) (g .items * g .nodes) (column-within g)
@@ -102,7 +102,7 @@ survivors-twice (Node m) v = λ i. record { mark = fun-ext again i; entry = v .e
     again n = by-cases (eqb n m) (λ e. rw e refl) (λ e. rw e refl)
 
 -- stored or not, the survivors are the same
-survivors-same :
+pub survivors-same :
     {g : Geometry} (lost : Lost) (l : ℕ) {l₁ : ℕ} {t t₁ : List ℕ} → wordsOf g ≤ length t → All (Within g) (lostStores lost)
     → Stored g l (lostStores lost) t t₁ l₁ → survivors lost (view g t₁) ≡ survivors lost (view g t)
 survivors-same {g} lost zero {t = t} long within s = ap (λ (u : List ℕ). survivors lost (view g u)) (s .table ∙ after-zero g (lostStores lost) t)
@@ -115,7 +115,7 @@ survivors-same {g} lost (suc l) {t = t} long within s =
     few Nobody = omega arith
     few (Node m) = omega arith
 
-lost-stores-within : (g : Geometry) (lost : Lost) → lostOutside g lost ≡ false → All (Within g) (lostStores lost)
+pub lost-stores-within : (g : Geometry) (lost : Lost) → lostOutside g lost ≡ false → All (Within g) (lostStores lost)
 lost-stores-within g Nobody h = none
 lost-stores-within g (Node m) h = more {s = markStore m 0} (lost-within g (Node m) h refl) none
 

@@ -1,19 +1,19 @@
 -- The word forms and the frames of a survivor, by a pass over its occupied entries.
 use Prim.Native.Nat.{ℕ, _+_, _*_, _≤_, _<_}
 use mathlib.Core.Path.{_≡_, refl, sym, ap, ap₂, _∙_}
-use mathlib.Core.Bool.{Bool, true, false, not, _&&_}
+use mathlib.Core.Bool.{Bool, true, not, _&&_}
 use mathlib.Core.List.{List}
 use native.Mathlib.Omega.{arith}
 use mir.Val.{boolByte}
 use lib.Dec.{eqb, leb}
-use lib.ListN.{length, getD}
+use lib.ListN.{getD}
 use Rattle.counting.specs.Tests.{by-cases, and-true}
 use Rattle.counting.specs.Counting.{every, every-none, every-next, sum, sum-none, sum-next, sum-ext}
 use Rattle.table.specs.declared.geometry.Geometry.{Geometry}
 use Rattle.table.specs.Words.{stateForm, currentOf, keptOf}
 use Rattle.table.specs.View.{View}
 use Rattle.entries.specs.Frames.{setFrames, frameOf, framesIn, used, framesFit, frames-here}
-use Rattle.entries.specs.Sound.{statesForm, nodeSound, node-dead}
+use Rattle.entries.specs.Sound.{statesForm, nodeSound}
 use Rattle.recovery.specs.declared.lost.Lost.{Lost}
 use Rattle.recovery.specs.Survivors.{survivors}
 use Rattle.recovery.specs.SurvivorsCode.{survivor-live}
@@ -77,25 +77,14 @@ row-used g v n r = r .in-use ∙ sum-ext (g .items) _ _ (λ b _. frames-here g v
 
 -- ---- a survivor
 
-pub record SurvivorTested (g : Geometry) (w : View) (n : ℕ) (l l′ : List ℕ) (r : Bool) : Type 0 where
-  pub sound : r ≡ nodeSound g w n
-  pub size : length l′ ≡ length l
+pub row-sound :
+    (g : Geometry) (lost : Lost) (v : View) (n : ℕ) {mark : ℕ} → mark ≡ survivors lost v .mark n → (mark ≡ 0 → ⊥)
+    → {forms : Bool} {frames f : ℕ} → RowTo v n (g .items) forms frames → f ≡ setFrames g → (forms && leb frames f) ≡ nodeSound g (survivors lost v) n
+unfolding statesForm framesFit every
+row-sound g lost v n h d r e = survivor-live g lost v n h d (r .formed ∙ forms-in) (ap₂ leb (row-used g v n r) e ∙ one-set)
+  where
+    forms-in : every (λ b. stateForm (stateIn v n b)) (g .items) ≡ statesForm g v n
+    forms-in = refl
 
-module _ (g : Geometry) (lost : Lost) (v : View) (n : ℕ) {mark : ℕ} {l : List ℕ} (h : mark ≡ survivors lost v .mark n) where
-  pub tested-dead : mark ≡ 0 → SurvivorTested g (survivors lost v) n l l true
-  tested-dead d = record { sound = node-dead g (survivors lost v) n mark h d; size = refl }
-
-  pub tested-live :
-      (mark ≡ 0 → ⊥) → {forms : Bool} {frames f : ℕ} {l′ : List ℕ} → length l′ ≡ length l → RowTo v n (g .items) forms frames → f ≡ setFrames g
-      → SurvivorTested g (survivors lost v) n l l′ (forms && leb frames f)
-  unfolding statesForm framesFit every
-  tested-live d z r e = record {
-    sound = survivor-live g lost v n h d (r .formed ∙ forms-in) (ap₂ leb (row-used g v n r) e ∙ one-set);
-    size = z;
-  }
-    where
-      forms-in : every (λ b. stateForm (stateIn v n b)) (g .items) ≡ statesForm g v n
-      forms-in = refl
-
-      one-set : leb (used g v n 0) (setFrames g) ≡ framesFit g v n
-      one-set = refl
+    one-set : leb (used g v n 0) (setFrames g) ≡ framesFit g v n
+    one-set = refl

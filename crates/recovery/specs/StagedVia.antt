@@ -24,3 +24,8 @@ module _ {g : Geometry} {P : View → Type 0} where
   unfolding staged
   via-staged I zero f h p b = done p b
   via-staged I (suc n) f h {v} p b = via-on (via-staged I n f (λ i l. h i (omega arith)) p b) (h n (omega arith) (updates (staged f n v) v))
+
+  -- at the end both hold
+  pub via-end : {B : View → Type 0} {v : View} {ss : List Store} → Via g P B v ss → P (updates ss v) × B (updates ss v)
+  via-end (done p b) = (p, b)
+  via-end (step p w h) = via-end h

@@ -6,16 +6,15 @@ use native.Mathlib.Omega.{arith}
 use lib.Dec.{ltb, leb}
 use borrow.Author.Tests.{eq-eqb, ne-eqb, lt-ltb, le-ltb, ltb-true}
 use Rattle.counting.specs.Tests.{bool-iff}
-use Rattle.counting.specs.Counting.{Counted, every, count}
+use Rattle.counting.specs.Counting.{Counted, count}
 use Rattle.table.specs.declared.geometry.Geometry.{Geometry}
-use Rattle.table.specs.Words.{markForm}
 use Rattle.table.specs.View.{View, live}
 use Rattle.entries.specs.Frames.{framesFit, framesAt, used}
-use Rattle.entries.specs.Sound.{marksForm, statesForm, nodeSound, nodesSound, node-live}
+use Rattle.entries.specs.Sound.{statesForm, nodeSound, node-live}
 use Rattle.recovery.specs.declared.lost.Lost.{Lost}
 use Rattle.recovery.specs.declared.lost.Lost.the-variants.{Nobody, Node}
 use Rattle.recovery.specs.Survivors.{survivors, survivorCount, lostOutside}
-use Rattle.recovery.specs.Recover.{survivorsFormed, tooFewWith, tooFew}
+use Rattle.recovery.specs.Recover.{tooFewWith, tooFew}
 
 -- ---- the mark of a survivor
 
@@ -89,9 +88,3 @@ pub survivor-live :
     → forms ≡ statesForm g v n → frames ≡ framesFit g v n → (forms && frames) ≡ nodeSound g (survivors lost v) n
 survivor-live g lost v n e d f u =
     node-live g (survivors lost v) n _ e d (f ∙ states-same g lost v n) (u ∙ frames-same g lost v n)
-
-pub formed-end :
-    (g : Geometry) (w : View) (n : ℕ) {forms sound : Bool} → n ≤ g .nodes → g .nodes ≤ n → forms ≡ every (λ k. markForm (w .mark k)) n
-    → sound ≡ every (nodeSound g w) n → (forms && sound) ≡ survivorsFormed g w
-unfolding survivorsFormed marksForm nodesSound
-formed-end g w n l m f s = let e : n ≡ g .nodes = omega arith in rw (f, s, e) refl

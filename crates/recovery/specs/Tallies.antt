@@ -122,7 +122,7 @@ module _ (w : View) (b : ℕ) where
   shares-le code zero = omega arith
   shares-le code (suc n) = omega (arith, shares-le code n, share-in-le w b code n)
 
-  holders-shares : (code n : ℕ) → count (has w b code) n ≤ sum (shareIn w b code) n
+  pub holders-shares : (code n : ℕ) → count (has w b code) n ≤ sum (shareIn w b code) n
   unfolding sum count
   holders-shares code zero = omega arith
   holders-shares code (suc n) = omega (arith, holders-shares code n, has-share w b code n)

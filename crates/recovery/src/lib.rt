@@ -1,5 +1,6 @@
 // Recovery after the loss of a node, or of none; a call as a value; demand 3 carried out.
 pub mod call;
+mod census;
 mod closing;
 pub mod lost;
 mod numbering;

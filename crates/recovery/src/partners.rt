@@ -3,7 +3,6 @@
 ghost use mathlib.Core.Path.{_≡_};
 ghost use Prim.Native.Nat.{_≤_, _<_, _-_};
 ghost use lib.ListN.{length};
-ghost use Rattle.counting.specs.Counting.{Counted, count};
 ghost use Rattle.table.specs.Geometry.{wordsOf};
 ghost use Rattle.table.specs.Stores.{StoredIn};
 ghost use Rattle.table.specs.View.{view};
@@ -15,9 +14,8 @@ ghost use Rattle.recovery.specs.Survivors.{survivors};
 ghost use Rattle.recovery.specs.Rolling.{sharedCK};
 ghost use Rattle.recovery.specs.Partners.{holderOf, partnerChanges, partnerFrom, partnerStores, partnersStores};
 ghost use Rattle.recovery.specs.PartnersCounts.{usedWith};
-ghost use Rattle.recovery.specs.PartnersCode.{takesBy, Found, UsedTold, Filled, Ready, Turned};
-ghost use Rattle.recovery.specs.PartnersSkip.{Passable};
-ghost use Rattle.recovery.specs.Tallies.{Tallied};
+ghost use Rattle.recovery.specs.PartnersCode.{takesBy, Found, UsedTold, Filled, FilledFrom, Ready, Turned};
+ghost use Rattle.recovery.specs.PartnersSkip.{Single, Passable, Tallying, Settles};
 use crate::lost::Lost;
 use crate::numbering;
 use crate::rows;
@@ -57,6 +55,18 @@ fn fill_used(table: &[u64], g: Geometry, lost: Lost, scratch: &mut [u64])
     }
 }
 
+// The frames in use of each survivor, as they were counted, in the scratch.
+pub(crate) fn fill_counted(nodes: u8, used: &[u64], scratch: &mut [u64])
+    requires { ⌜ (nodes ≤ length (now used)) × (nodes ≤ length (now scratch)) ⌝ }
+    ensures { λ _. ⌜ FilledFrom nodes nodes (now (used .entry)) (now (scratch .entry)) (now (scratch .exit)) ⌝ }
+{
+    let mut node: u8 = 0;
+    while node < nodes {
+        scratch[node as usize] = used[node as usize];
+        node += 1;
+    }
+}
+
 // Whether a node survives and has a copy of an item.
 fn copy_at(table: &[u64], g: Geometry, lost: Lost, item: u16, node: u8) -> bool
     ensures { λ r. ⌜ r ≡ copy (survivors lost (view g (now (table .entry)))) item node ⌝ }
@@ -67,30 +77,6 @@ fn copy_at(table: &[u64], g: Geometry, lost: Lost, item: u16, node: u8) -> bool
     }
     let current = words::current_of(stores::state_at(table, g, node, item));
     current != words::INVALID
-}
-
-// 1 for a survivor with a copy of an item, 0 for any other node.
-fn one_copy(table: &[u64], g: Geometry, lost: Lost, item: u16, node: u8) -> u64
-    ensures { λ r. ⌜ Counted (copy (survivors lost (view g (now (table .entry)))) item node) r ⌝ }
-{
-    if copy_at(table, g, lost, item, node) {
-        return 1;
-    }
-    0
-}
-
-// How many survivors have a copy of an item.
-fn copies_of(table: &[u64], g: Geometry, lost: Lost, item: u16) -> u64
-    ensures { λ r. ⌜ r ≡ count (copy (survivors lost (view g (now (table .entry)))) item) (g .nodes) ⌝ }
-{
-    let nodes = g.nodes;
-    let mut n: u64 = 0;
-    let mut node: u8 = 0;
-    while node < nodes {
-        n += one_copy(table, g, lost, item, node);
-        node += 1;
-    }
-    n
 }
 
 // The lowest survivor with a copy of an item, or the number of nodes if there is none.
@@ -208,7 +194,7 @@ fn partner_from(
     store_partner(table, left, g, partner, item, node)
 }
 
-// An item's turn: a single copy gets its partner.
+// The turn of an item with a single copy: its holder's copy gets a partner.
 fn partner_item(
     table: &mut [u64],
     left: u64,
@@ -217,18 +203,17 @@ fn partner_item(
     scratch: &mut [u64],
     item: u16,
 ) -> u64
-    requires { ⌜ Ready g lost left (now table) (now scratch) × (item < g .items) ⌝ }
+    requires { ⌜ Ready g lost left (now table) (now scratch) × ((item < g .items) × Single g lost left (now table) item) ⌝ }
     ensures { λ r. ⌜ Turned g lost (partnerStores g item) left (now (table .entry)) (now (table .exit)) (now (scratch .entry)) (now (scratch .exit)) r ⌝ }
 {
-    let copies = copies_of(table, g, lost, item);
-    if copies == 1 {
-        let node = holder_of(table, g, lost, item);
+    let node = holder_of(table, g, lost, item);
+    if node < g.nodes {
         return partner_from(table, left, g, lost, scratch, item, node);
     }
     left
 }
 
-// An item's turn, by its tally at the start of the stage: with a holder of each number it has no single copy.
+// An item's turn, by its tally at the start of the stage: with a holder of each number it has no single copy, else it has one.
 fn partner_turn(
     table: &mut [u64],
     left: u64,
@@ -248,7 +233,7 @@ fn partner_turn(
 }
 
 // The items, ascending.
-fn partner_items(
+pub(crate) fn partner_items(
     table: &mut [u64],
     left: u64,
     g: Geometry,
@@ -256,7 +241,7 @@ fn partner_items(
     scratch: &mut [u64],
     tallies: &[u64],
 ) -> u64
-    requires { ⌜ Ready g lost left (now table) (now scratch) × Tallied g (survivors lost (view g (now table))) (g .nodes) (now tallies) ⌝ }
+    requires { ⌜ Ready g lost left (now table) (now scratch) × Tallying g lost left (now table) (now tallies) ⌝ }
     ensures { λ r. ⌜ Turned g lost (partnersStores g) left (now (table .entry)) (now (table .exit)) (now (scratch .entry)) (now (scratch .exit)) r ⌝ }
 {
     let items = g.items;
@@ -278,7 +263,7 @@ pub(crate) fn partners(
     lost: Lost,
     scratch: &mut [u64],
 ) -> u64
-    requires { ⌜ (wordsOf g ≤ length (now table)) × ((g .nodes ≤ length (now scratch)) × (g .items ≤ 256)) ⌝ }
+    requires { ⌜ (wordsOf g ≤ length (now table)) × ((g .nodes ≤ length (now scratch)) × ((g .items ≤ 256) × Settles g lost left (now table))) ⌝ }
     ensures { λ r. ⌜ Turned g lost (partnersStores g) left (now (table .entry)) (now (table .exit)) (now (scratch .entry)) (now (scratch .exit)) r ⌝ }
 {
     let mut tallies: [u64; 256] = [0; 256];

@@ -2,13 +2,17 @@
 ghost use mathlib.Core.Path.{_≡_};
 ghost use Prim.Native.Nat.{_≤_};
 ghost use lib.ListN.{length};
-ghost use Rattle.table.specs.Geometry.{wordsOf};
 ghost use Rattle.table.specs.Stores.{Stored};
 ghost use Rattle.table.specs.View.{view};
+ghost use Rattle.entries.specs.declared.check.Checked.the-variants.{Passed};
+ghost use Rattle.entries.specs.SurveySound.{Surveyable};
 ghost use Rattle.recovery.specs.Survivors.{survivors};
+ghost use Rattle.recovery.specs.Sides.{itemsFit};
 ghost use Rattle.recovery.specs.ClosingMarks.{closingStores};
-ghost use Rattle.recovery.specs.Recover.{scratchWords, recoverAdmission, recoverOf};
-ghost use Rattle.recovery.specs.RecoverCode.{Carriable, StagesStored, Recovers, RecoverMeets};
+ghost use Rattle.recovery.specs.Recover.{scratchWords, survivorsFormed, recoverAdmission, recoverChecked, recoverOf};
+ghost use Rattle.recovery.specs.PairsCode.{Pairable, Pairs};
+ghost use Rattle.recovery.specs.RecoverCode.{Roomy, StoresReady, RestoreReady, StagesStored, Recovers, RecoverMeets};
+use crate::census;
 use crate::closing;
 use crate::lost::Lost;
 use crate::numbering;
@@ -32,8 +36,15 @@ fn scratch_words(g: Geometry) -> usize
 }
 
 // 4 no such node; 16 scratch too short; 2 a survivor's word forms or frames; 14 too few survivors; 15 no recovery copy, or two that differ.
-fn admit_recover(table: &[u64], g: Geometry, lost: Lost, room: usize) -> Admission
-    requires { ⌜ (wordsOf g ≤ length (now table)) × (g .items ≤ 256) ⌝ }
+fn admit_recover(
+    table: &[u64],
+    g: Geometry,
+    lost: Lost,
+    room: usize,
+    formed: bool,
+    fit: bool,
+) -> Admission
+    requires { ⌜ (formed ≡ survivorsFormed g (survivors lost (view g (now table)))) × (fit ≡ itemsFit g (survivors lost (view g (now table)))) ⌝ }
     ensures { λ r. ⌜ r ≡ recoverAdmission g (survivors lost (view g (now (table .entry)))) lost room ⌝ }
 {
     let outside = survivors::lost_outside(g, lost);
@@ -44,7 +55,6 @@ fn admit_recover(table: &[u64], g: Geometry, lost: Lost, room: usize) -> Admissi
     if room < words {
         return Admission::Turned(Refusal::ShortScratch);
     }
-    let formed = survivors::survivors_formed(table, g, lost);
     if !formed {
         return Admission::Turned(Refusal::NotSound);
     }
@@ -52,12 +62,33 @@ fn admit_recover(table: &[u64], g: Geometry, lost: Lost, room: usize) -> Admissi
     if few {
         return Admission::Turned(Refusal::TooFewNodes);
     }
-    let forward = sides::forward_in(table, g, lost);
-    let fit = sides::items_fit(table, g, lost, forward);
     if !fit {
         return Admission::Turned(Refusal::NoRecoveryCopy);
     }
     Admission::Admitted
+}
+
+// Numbering, then partners. Where no item has two recovery copies of one number, numbering has nothing to do, and tallies and frames are those of the
+// census.
+fn pair(
+    table: &mut [u64],
+    left: u64,
+    g: Geometry,
+    lost: Lost,
+    scratch: &mut [u64],
+    tallies: &[u64],
+    used: &[u64],
+    plain: bool,
+) -> u64
+    requires { ⌜ Pairable g lost left plain (now table) (now scratch) (now tallies) (now used) ⌝ }
+    ensures { λ r. ⌜ Pairs g lost left (now (table .entry)) (now (table .exit)) (now (scratch .entry)) (now (scratch .exit)) r ⌝ }
+{
+    if plain {
+        partners::fill_counted(g.nodes, used, scratch);
+        return partners::partner_items(table, left, g, lost, scratch, tallies);
+    }
+    let left = numbering::number(table, left, g, lost);
+    partners::partners(table, left, g, lost, scratch)
 }
 
 // The survivors' marks, ascending: phase 0 and their largest number.
@@ -70,28 +101,186 @@ fn close(table: &mut [u64], left: u64, g: Geometry, lost: Lost) -> u64
 }
 
 // What is stored on the survivors, stage by stage.
-fn restore(table: &mut [u64], left: u64, g: Geometry, lost: Lost, scratch: &mut [u64]) -> u64
-    requires { ⌜ (wordsOf g ≤ length (now table)) × ((g .nodes ≤ length (now scratch)) × (g .items ≤ 256)) ⌝ }
+fn restore(
+    table: &mut [u64],
+    left: u64,
+    g: Geometry,
+    lost: Lost,
+    scratch: &mut [u64],
+    forward: bool,
+    list: &mut [u16],
+    tallies: &[u64],
+    used: &[u64],
+    plain: bool,
+) -> u64
+    requires { ⌜ RestoreReady g lost forward plain (now table) (now scratch) (now list) (now tallies) (now used) ⌝ }
     ensures { λ r. ⌜ StagesStored g lost left (now (table .entry)) (now (table .exit)) (now (scratch .entry)) (now (scratch .exit)) r ⌝ }
 {
-    let forward = sides::forward_in(table, g, lost);
-    let mut list: [u16; 256] = [0; 256];
-    let left = rolling::roll(table, left, g, lost, forward, &mut list);
-    let left = numbering::number(table, left, g, lost);
-    let left = partners::partners(table, left, g, lost, scratch);
+    let left = rolling::roll(table, left, g, lost, forward, list);
+    let left = pair(table, left, g, lost, scratch, tallies, used, plain);
     close(table, left, g, lost)
 }
 
 // All stores of a recovery; the scratch is zero where it was used.
-fn recover_stores(table: &mut [u64], left: u64, g: Geometry, lost: Lost, scratch: &mut [u64]) -> u64
-    requires { ⌜ Carriable g lost (now table) (now scratch) ⌝ }
+fn recover_stores(
+    table: &mut [u64],
+    left: u64,
+    g: Geometry,
+    lost: Lost,
+    scratch: &mut [u64],
+    forward: bool,
+    list: &mut [u16],
+    tallies: &[u64],
+    used: &[u64],
+    plain: bool,
+) -> u64
+    requires { ⌜ StoresReady g lost forward plain (now table) (now scratch) (now list) (now tallies) (now used) ⌝ }
     ensures { λ r. ⌜ Recovers g lost left (now (table .entry)) (now (table .exit)) (now (scratch .entry)) (now (scratch .exit)) r ⌝ }
 {
     let words = scratch_words(g);
     let left = closing::store_lost(table, left, g, lost);
-    let left = restore(table, left, g, lost, scratch);
+    let left = restore(
+        table,
+        left,
+        g,
+        lost,
+        scratch,
+        forward,
+        list,
+        tallies,
+        used,
+        plain,
+    );
     scratch::clear(scratch, words);
     left
+}
+
+// A recovery with a list, tallies and first values that are long enough, the latter two zero.
+fn recover_in(
+    table: &mut [u64],
+    g: Geometry,
+    lost: Lost,
+    scratch: &mut [u64],
+    limit: u64,
+    list: &mut [u16],
+    tallies: &mut [u64],
+    firsts: &mut [u64],
+) -> Answer
+    requires { ⌜ Surveyable g (now table) × Roomy g (now list) (now tallies) (now firsts) ⌝ }
+    ensures { λ r. ⌜ RecoverMeets (recoverChecked (now (table .entry)) lost (length (now (scratch .entry))) (Passed g)) limit (now (table .entry)) (now (table .exit)) (now (scratch .entry)) (now (scratch .exit)) r ⌝ }
+{
+    let mut used: [u64; 16] = [0; 16];
+    let forward = sides::forward_in(table, g, lost);
+    let census = census::take(table, g, lost, forward, list, tallies, firsts, &mut used);
+    let plain = census.plain;
+    let room = scratch.len();
+    let admission = admit_recover(table, g, lost, room, census.formed, census.fit);
+    match admission {
+        Admission::Turned(x) => Answer::Refused(x),
+        Admission::Admitted => {
+            let left = recover_stores(
+                table,
+                limit,
+                g,
+                lost,
+                scratch,
+                forward,
+                list,
+                tallies,
+                &used,
+                plain,
+            );
+            let stores = limit - left;
+            Answer::Done { value: 0, stores }
+        }
+    }
+}
+
+// Of at most 16 items.
+fn recover_16(table: &mut [u64], g: Geometry, lost: Lost, scratch: &mut [u64], limit: u64) -> Answer
+    requires { ⌜ (g .items ≤ 16) × Surveyable g (now table) ⌝ }
+    ensures { λ r. ⌜ RecoverMeets (recoverChecked (now (table .entry)) lost (length (now (scratch .entry))) (Passed g)) limit (now (table .entry)) (now (table .exit)) (now (scratch .entry)) (now (scratch .exit)) r ⌝ }
+{
+    let mut list: [u16; 16] = [0; 16];
+    let mut tallies: [u64; 16] = [0; 16];
+    let mut firsts: [u64; 16] = [0; 16];
+    recover_in(
+        table,
+        g,
+        lost,
+        scratch,
+        limit,
+        &mut list,
+        &mut tallies,
+        &mut firsts,
+    )
+}
+
+// Of at most 64 items.
+fn recover_64(table: &mut [u64], g: Geometry, lost: Lost, scratch: &mut [u64], limit: u64) -> Answer
+    requires { ⌜ (g .items ≤ 64) × Surveyable g (now table) ⌝ }
+    ensures { λ r. ⌜ RecoverMeets (recoverChecked (now (table .entry)) lost (length (now (scratch .entry))) (Passed g)) limit (now (table .entry)) (now (table .exit)) (now (scratch .entry)) (now (scratch .exit)) r ⌝ }
+{
+    let mut list: [u16; 64] = [0; 64];
+    let mut tallies: [u64; 64] = [0; 64];
+    let mut firsts: [u64; 64] = [0; 64];
+    recover_in(
+        table,
+        g,
+        lost,
+        scratch,
+        limit,
+        &mut list,
+        &mut tallies,
+        &mut firsts,
+    )
+}
+
+// Of at most 256 items.
+fn recover_256(
+    table: &mut [u64],
+    g: Geometry,
+    lost: Lost,
+    scratch: &mut [u64],
+    limit: u64,
+) -> Answer
+    requires { ⌜ Surveyable g (now table) ⌝ }
+    ensures { λ r. ⌜ RecoverMeets (recoverChecked (now (table .entry)) lost (length (now (scratch .entry))) (Passed g)) limit (now (table .entry)) (now (table .exit)) (now (scratch .entry)) (now (scratch .exit)) r ⌝ }
+{
+    let mut list: [u16; 256] = [0; 256];
+    let mut tallies: [u64; 256] = [0; 256];
+    let mut firsts: [u64; 256] = [0; 256];
+    recover_in(
+        table,
+        g,
+        lost,
+        scratch,
+        limit,
+        &mut list,
+        &mut tallies,
+        &mut firsts,
+    )
+}
+
+// The arrays are as long as the items ask for.
+fn recover_sized(
+    table: &mut [u64],
+    g: Geometry,
+    lost: Lost,
+    scratch: &mut [u64],
+    limit: u64,
+) -> Answer
+    requires { ⌜ Surveyable g (now table) ⌝ }
+    ensures { λ r. ⌜ RecoverMeets (recoverChecked (now (table .entry)) lost (length (now (scratch .entry))) (Passed g)) limit (now (table .entry)) (now (table .exit)) (now (scratch .entry)) (now (scratch .exit)) r ⌝ }
+{
+    let items = g.items;
+    if items <= 16 {
+        return recover_16(table, g, lost, scratch, limit);
+    }
+    if items <= 64 {
+        return recover_64(table, g, lost, scratch, limit);
+    }
+    recover_256(table, g, lost, scratch, limit)
 }
 
 // Brings the survivors back to the last recovery point, or on to the new one, in at most `limit` stores.
@@ -101,17 +290,6 @@ pub fn recover(table: &mut [u64], lost: Lost, scratch: &mut [u64], limit: u64) -
     let sized = entries::check::sizes(table);
     match sized {
         Checked::Failed(x) => Answer::Refused(x),
-        Checked::Passed(g) => {
-            let room = scratch.len();
-            let admission = admit_recover(table, g, lost, room);
-            match admission {
-                Admission::Turned(x) => Answer::Refused(x),
-                Admission::Admitted => {
-                    let left = recover_stores(table, limit, g, lost, scratch);
-                    let stores = limit - left;
-                    Answer::Done { value: 0, stores }
-                }
-            }
-        }
+        Checked::Passed(g) => recover_sized(table, g, lost, scratch, limit),
     }
 }

@@ -1,17 +1,14 @@
 // The survivors of a recovery: the live nodes but the lost one, of whose words nothing is read, its mark included.
 ghost use mathlib.Core.Path.{_≡_};
-ghost use Prim.Native.Nat.{_<_, _≤_};
-ghost use lib.ListN.{length};
-ghost use Rattle.table.specs.Geometry.{wordsOf};
+ghost use Prim.Native.Nat.{_≤_};
 ghost use Rattle.counting.specs.Counting.{Counted};
 ghost use Rattle.table.specs.View.{view, live};
 ghost use Rattle.recovery.specs.Survivors.{survivors, survivorCount, lostOutside};
-ghost use Rattle.recovery.specs.Recover.{survivorsFormed, tooFewWith, tooFew};
+ghost use Rattle.recovery.specs.Recover.{tooFewWith, tooFew};
 ghost use Rattle.recovery.specs.Rows.{stateIn, Listed};
-ghost use Rattle.recovery.specs.RowsSound.{RowTo, SurvivorTested};
+ghost use Rattle.recovery.specs.RowsSound.{RowTo};
 use crate::lost::Lost;
 use crate::rows;
-use entries::frames;
 use table::geometry::Geometry;
 use table::stores;
 use table::words;
@@ -109,39 +106,4 @@ pub(crate) fn row_listed(table: &[u64], g: Geometry, node: u8, list: &[u16], cou
         k += 1;
     }
     Row { forms, frames }
-}
-
-// Whether a node is no survivor, or its state words have their form and its frames suffice.
-fn survivor_sound(table: &[u64], g: Geometry, lost: Lost, node: u8, list: &mut [u16]) -> bool
-    requires { ⌜ (node < g .nodes) × ((wordsOf g ≤ length (now table)) × (g .items ≤ length (now list))) ⌝ }
-    ensures { λ r. ⌜ SurvivorTested g (survivors lost (view g (now (table .entry)))) node (now (list .entry)) (now (list .exit)) r ⌝ }
-{
-    let mark = survivor_mark(table, g, lost, node);
-    if mark == 0 {
-        return true;
-    }
-    let count = rows::occupied(table, g, node, list);
-    let row = row_listed(table, g, node, list, count);
-    let frames = frames::set_frames(g);
-    row.forms & (row.frames <= frames)
-}
-
-// 2: whether word forms and frames of the survivors hold.
-pub(crate) fn survivors_formed(table: &[u64], g: Geometry, lost: Lost) -> bool
-    requires { ⌜ (wordsOf g ≤ length (now table)) × (g .items ≤ 256) ⌝ }
-    ensures { λ r. ⌜ r ≡ survivorsFormed g (survivors lost (view g (now (table .entry)))) ⌝ }
-{
-    let nodes = g.nodes;
-    let mut list: [u16; 256] = [0; 256];
-    let mut forms = true;
-    let mut sound = true;
-    let mut node: u8 = 0;
-    while node < nodes {
-        let form = words::mark_form(survivor_mark(table, g, lost, node));
-        let good = survivor_sound(table, g, lost, node, &mut list);
-        forms = forms & form;
-        sound = sound & good;
-        node += 1;
-    }
-    forms & sound
 }

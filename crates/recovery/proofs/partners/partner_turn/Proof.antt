@@ -4,12 +4,18 @@ use borrow.Author.Needs.{needs}
 use Rattle.recovery.proofs.partners.partner_turn.Statement.{statement}
 use Rattle.recovery.proofs.partners.partner_turn.Tie as tie
 
+partner-item-requires : tie.Need-partner-item-requires
+partner-item-requires c κs =
+    let i = c .before .before in
+    let f = i .before .before .before in
+    (f .pre .ready, (f .pre .there, f .pre .single (i .if1 .left)))
+
 pub partner-turn-spec : {M : Type 1} → statement M
 partner-turn-spec =
     tie.close
     (tie.spec
     (λ c. let f = c .before .before .before in turn-skipped (f .args .g) (f .args .lost) (f .pre) (c .if1 .taken))
-    (λ c κs. search needs)
+    partner-item-requires
     (λ c. search needs)
     (λ c. search needs)
     (λ c. search needs))

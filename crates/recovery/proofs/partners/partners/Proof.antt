@@ -6,14 +6,14 @@ use Rattle.recovery.proofs.partners.partners.Statement.{statement}
 use Rattle.recovery.proofs.partners.partners.Tie as tie
 
 tally-requires : tie.Need-tally-requires
-tally-requires c κs = let f = c .before .before .before .before in (f .pre .0, (f .pre .1 .1, tallied-zeros _ _ (f .pre .1 .1)))
+tally-requires c κs = let f = c .before .before .before .before in (f .pre .0, (f .pre .1 .1 .0, tallied-zeros _ _ (f .pre .1 .1 .0)))
 
 partner-items-requires : tie.Need-partner-items-requires
 partner-items-requires c κs =
     let u = c .before .before .before .before .before in
     let t = u .before .before .before .before in
     let f = t .before .before .before .before .before in
-    (filled-ready (f .args .g) (f .args .lost) (u .fill-used .ensures) (f .pre .0) (f .pre .1 .0), t .tally .ensures)
+    (filled-ready (f .args .g) (f .args .lost) (u .fill-used .ensures) (f .pre .0) (f .pre .1 .0), record { tallied = λ _. t .tally .ensures; settled = f .pre .1 .1 .1 .settled })
 
 returns : tie.Need-returns
 returns c =

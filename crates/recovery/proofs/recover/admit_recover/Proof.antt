@@ -19,36 +19,40 @@ returns-2 c =
 
 returns-3 : tie.Need-returns-3
 returns-3 c =
-    let r = c .before .before in
+    let r = c .before in
     let o = r .before .before in
-    let a = o .before .before .before .args in
-    admit-unformed (a .g) (survivors (a .lost) (view (a .g) (a .table .now))) (a .lost) (a .room) (o .before .lost-outside .ensures) (o .if1 .left) (r .before .scratch-words .ensures) (r .if2 .left) (c .before .survivors-formed .ensures) (c .if3 .taken)
+    let s = o .before .before .before in
+    let a = s .args in
+    admit-unformed (a .g) (survivors (a .lost) (view (a .g) (a .table .now))) (a .lost) (a .room) (o .before .lost-outside .ensures) (o .if1 .left) (r .before .scratch-words .ensures) (r .if2 .left) (s .pre .0) (c .if3 .taken)
 
 returns-4 : tie.Need-returns-4
 returns-4 c =
     let f = c .before .before in
-    let r = f .before .before in
+    let r = f .before in
     let o = r .before .before in
-    let a = o .before .before .before .args in
-    admit-few (a .g) (survivors (a .lost) (view (a .g) (a .table .now))) (a .lost) (a .room) (o .before .lost-outside .ensures) (o .if1 .left) (r .before .scratch-words .ensures) (r .if2 .left) (f .before .survivors-formed .ensures) (f .if3 .left) (c .before .too-few .ensures) (c .if4 .taken)
+    let s = o .before .before .before in
+    let a = s .args in
+    admit-few (a .g) (survivors (a .lost) (view (a .g) (a .table .now))) (a .lost) (a .room) (o .before .lost-outside .ensures) (o .if1 .left) (r .before .scratch-words .ensures) (r .if2 .left) (s .pre .0) (f .if3 .left) (c .before .too-few .ensures) (c .if4 .taken)
 
 returns-5 : tie.Need-returns-5
 returns-5 c =
-    let k = c .before .before .before in
+    let k = c .before in
     let f = k .before .before in
-    let r = f .before .before in
+    let r = f .before in
     let o = r .before .before in
-    let a = o .before .before .before .args in
-    admit-unfit (a .g) (survivors (a .lost) (view (a .g) (a .table .now))) (a .lost) (a .room) (o .before .lost-outside .ensures) (o .if1 .left) (r .before .scratch-words .ensures) (r .if2 .left) (f .before .survivors-formed .ensures) (f .if3 .left) (k .before .too-few .ensures) (k .if4 .left) (c .before .before .forward-in .ensures) (c .before .items-fit .ensures) (c .if5 .taken)
+    let s = o .before .before .before in
+    let a = s .args in
+    admit-unfit (a .g) (survivors (a .lost) (view (a .g) (a .table .now))) (a .lost) (a .room) (o .before .lost-outside .ensures) (o .if1 .left) (r .before .scratch-words .ensures) (r .if2 .left) (s .pre .0) (f .if3 .left) (k .before .too-few .ensures) (k .if4 .left) (s .pre .1) (c .if5 .taken)
 
 returns-6 : tie.Need-returns-6
 returns-6 c =
-    let k = c .before .before .before in
+    let k = c .before in
     let f = k .before .before in
-    let r = f .before .before in
+    let r = f .before in
     let o = r .before .before in
-    let a = o .before .before .before .args in
-    admit-all (a .g) (survivors (a .lost) (view (a .g) (a .table .now))) (a .lost) (a .room) (o .before .lost-outside .ensures) (o .if1 .left) (r .before .scratch-words .ensures) (r .if2 .left) (f .before .survivors-formed .ensures) (f .if3 .left) (k .before .too-few .ensures) (k .if4 .left) (c .before .before .forward-in .ensures) (c .before .items-fit .ensures) (c .if5 .left)
+    let s = o .before .before .before in
+    let a = s .args in
+    admit-all (a .g) (survivors (a .lost) (view (a .g) (a .table .now))) (a .lost) (a .room) (o .before .lost-outside .ensures) (o .if1 .left) (r .before .scratch-words .ensures) (r .if2 .left) (s .pre .0) (f .if3 .left) (k .before .too-few .ensures) (k .if4 .left) (s .pre .1) (c .if5 .left)
 
 pub admit-recover-spec : {M : Type 1} → statement M
 admit-recover-spec =
@@ -58,11 +62,8 @@ admit-recover-spec =
     returns
     (λ c κs. search needs)
     returns-2
-    (λ c κs. search needs)
     returns-3
     (λ c κs. search needs)
     returns-4
-    (λ c κs. search needs)
-    (λ c κs. search needs)
     returns-5
     returns-6)

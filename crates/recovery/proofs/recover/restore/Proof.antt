@@ -1,19 +1,31 @@
--- `restore` meets its contract: the four stages, each on the table that it finds. Assumes nothing.
-use Rattle.recovery.specs.RecoverCode.{restored}
+-- `restore` meets its contract: the stages, each on the table that it finds. Assumes nothing.
+use Rattle.recovery.specs.RecoverCode.{restore-pairable, restored}
 use borrow.Author.Needs.{needs}
 use Rattle.recovery.proofs.recover.restore.Statement.{statement}
 use Rattle.recovery.proofs.recover.restore.Tie as tie
+
+pair-requires : tie.Need-pair-requires
+pair-requires c κs =
+    let r = c .before .before .before .before .before .before in
+    let o = r .before .before .before .before .before .before .before .before in
+    restore-pairable (o .args .g) (o .args .lost) (o .pre) (r .roll .ensures) (search needs)
+
+returns : tie.Need-returns
+returns c =
+    let d = c .before .before in
+    let p = d .before .before .before .before .before .before in
+    let r = p .before .before .before .before .before .before .before in
+    let o = r .before .before .before .before .before .before .before .before in
+    restored (o .args .g) (o .args .lost) (o .pre) (r .roll .ensures) (p .pair .ensures) (d .close .ensures)
 
 pub restore-spec : {M : Type 1} → statement M
 restore-spec =
     tie.close
     (tie.spec
     (λ c κs. search needs)
-    (λ c. search needs)
-    (λ c κs. search needs)
-    (λ c κs. search needs)
-    (λ c κs. search needs)
+    pair-requires
     (λ c κs. search needs)
     (λ c. search needs)
     (λ c. search needs)
-    (λ c. search restored))
+    (λ c. search needs)
+    returns)

@@ -1,0 +1,258 @@
+-- The census as the code goes: a law for each turn and each way out.
+use Prim.Native.Nat.{ℕ, zero, suc, _+_, _*_, _^_, _≤_, _<_}
+use mathlib.Core.Path.{_≡_, refl, sym, ap, ap₂, _∙_}
+use mathlib.Core.Bool.{Bool, true, false, _&&_}
+use mathlib.Core.List.{List}
+use native.Mathlib.Omega.{arith}
+use native.Mathlib.Decide.{ℕ-discrete}
+use lib.Dec.{leb}
+use lib.ListN.{length, getD, set, length-set}
+use lib.Seq.{getD-set-same, getD-set-other}
+use borrow.Author.Tests.{lt-ltb, eq-eqb, ne-eqb}
+use Rattle.counting.specs.Tests.{by-cases, and-both, and-true, no-both}
+use Rattle.counting.specs.Counting.{every, sum, sum-none, sum-next, one, count, count-none, count-next, count-le}
+use Rattle.table.specs.declared.geometry.Geometry.{Geometry}
+use Rattle.table.specs.Geometry.{entryAt, Placed}
+use Rattle.table.specs.Words.{markForm, currentOf, keptOf}
+use Rattle.table.specs.View.{Entry, View, view, live, entry-read}
+use Rattle.entries.specs.Frames.{setFrames, framesIn, frame-le}
+use Rattle.entries.specs.Sound.{marksForm, nodeSound, nodesSound, node-dead}
+use Rattle.recovery.specs.declared.lost.Lost.{Lost}
+use Rattle.recovery.specs.declared.census.Turn.{Turn}
+use Rattle.recovery.specs.declared.census.Found.{Found}
+use Rattle.recovery.specs.declared.census.Kinds.{Kinds}
+use Rattle.recovery.specs.Recover.{survivorsFormed}
+use Rattle.recovery.specs.Survivors.{survivors}
+use Rattle.recovery.specs.SurvivorsCode.{survivor-entry}
+use Rattle.recovery.specs.Rows.{stateIn, Listed, reached, reached-start, reached-next, listed-turn, listed-end, row-room}
+use Rattle.recovery.specs.RowsSound.{RowTo, row-start, row-turn, row-small, row-all, row-sound}
+use Rattle.recovery.specs.Notes.{NotedTo, Notable, noted-start, noted-rooms, noted-same, noted-turn, noted-all, note-dead, note-live, equalTo, equal-dead, equal-live, number-blank, every-and, note-zeros, notes-fit}
+use Rattle.recovery.specs.Census.{hasOn, entryFrom, EntryNoted, RowReady, RowNoted, sideWeight, heldOn, Takable, CensusTo, NodeReady, NodeNoted, NodesNoted, KindsTold, TakenIn}
+
+-- ---- a row
+
+-- what a row's pass needs, and the list that it goes by
+pub record RowListed (g : Geometry) (n : ℕ) (t : List ℕ) (start : ℕ) (l : List ℕ) (count : ℕ) (s f : List ℕ) : Type 0 where
+  pub there : n < g .nodes
+  pub placed : Placed g n 0 start
+  pub notable : Notable g (view g t) n l count f s
+
+-- the items before i are passed
+pub record RowPassed (forward : Bool) (v : View) (n i : ℕ) (s s′ f f′ : List ℕ) (forms : Bool) (frames held : ℕ) (agree : Bool) : Type 0 where
+  pub row : RowTo v n i forms frames
+  pub noted : NotedTo forward v n f s i f′ s′ agree
+  pub held-to : held ≡ count (λ b. hasOn forward (v .entry n b)) i
+
+pub row-lists :
+    (g : Geometry) (n : ℕ) (t : List ℕ) {start : ℕ} {l l′ : List ℕ} {count : ℕ} {s f : List ℕ} → RowReady g n t l s f → Placed g n 0 start
+    → Listed (stateIn (view g t) n) (g .items) l′ count → RowListed g n t start l′ count s f
+row-lists g n t r a o = record { there = r .there; placed = a; notable = record { listed = o; firsts-room = r .firsts-room; tallies-room = r .tallies-room } }
+
+pub passed-start : (forward : Bool) (v : View) (n : ℕ) (l s f : List ℕ) → RowPassed forward v n (reached l 0) s s f f true 0 0 true
+passed-start forward v n l s f = record {
+  row = row-start v n l;
+  noted = noted-start forward v n l f s;
+  held-to = rw (reached-start l) (count-none _);
+}
+
+frames-small : (w : ℕ) → framesIn w ≤ 2
+unfolding framesIn
+frames-small w = omega (arith, frame-le (currentOf w), frame-le (keptOf w))
+
+one-small : (b : Bool) → one b ≤ 1
+one-small true = omega arith
+one-small false = omega arith
+
+pub entry-small : {forward : Bool} {e : Entry} {j : ℕ} {s s′ f f′ : List ℕ} {r : Turn} → EntryNoted forward e j s s′ f f′ r → (r .frames ≤ 2) × (r .held ≤ 1)
+entry-small {forward} {e} m = (omega (arith, m .frames, frames-small (e .state)), omega (arith, m .held, one-small (hasOn forward e)))
+
+-- the entry that the code reads is the view's
+entry-here :
+    (g : Geometry) (n : ℕ) (t : List ℕ) (j : ℕ) {start : ℕ} → n < g .nodes → j < g .items → Placed g n 0 start
+    → view g t .entry n j ≡ entryFrom t (start + 3 * j)
+entry-here g n t j {start} h k a =
+    let e : start + 3 * j ≡ entryAt g n j = omega (arith, a .at) in
+    let z : entryAt g n j + 0 ≡ entryAt g n j = omega arith in
+    entry-read g t n j (and-both (lt-ltb _ _ h) (lt-ltb _ _ k)) ∙ rw (e, z) refl
+
+module _ (forward : Bool) (v : View) (n : ℕ) where
+  held-blank : {held : ℕ} (j : ℕ) → stateIn v n j ≡ 0 → held ≡ count (λ b. hasOn forward (v .entry n b)) j
+      → held ≡ count (λ b. hasOn forward (v .entry n b)) (j + 1)
+  held-blank j e h =
+      let z : hasOn forward (v .entry n j) ≡ false = rw (number-blank forward (v .entry n j) e) refl in
+      omega (arith, h, count-next (λ b. hasOn forward (v .entry n b)) j, ap one z)
+
+module _ (g : Geometry) (forward : Bool) (n : ℕ) (t : List ℕ) {start : ℕ} {l : List ℕ} {many : ℕ} {s s′ f f′ : List ℕ} {forms : Bool} {frames held : ℕ} {agree : Bool}
+    (o : RowListed g n t start l many s f) (k : ℕ) (p : RowPassed forward (view g t) n (reached l k) s s′ f f′ forms frames held agree) where
+  pub passed-small : k < many → (frames ≤ 2 * g .items) × (held ≤ g .items)
+  passed-small q =
+      let a = o .notable .listed .ascends k q in
+      let b = o .notable .listed .below k q in
+      (row-small (view g t) n (o .notable .listed) k (p .row) q, omega (arith, p .held-to, count-le (reached l k) (λ b. hasOn forward (view g t .entry n b))))
+
+  -- what the entry's turn needs
+  pub passed-asks :
+      {l₀ : List ℕ} → RowReady g n t l₀ s f → n < 256 → k < many
+      → (start + 3 * getD l k 0 + 2 < length t) × ((getD l k 0 < length s′) × ((getD l k 0 < length f′) × (getD s′ (getD l k 0) 0 < 2 ^ 32)))
+  passed-asks r h q =
+      let b = o .notable .listed .below k q in
+      let a = noted-rooms forward (view g t) n g (o .notable) k (p .noted) q in (
+        omega (arith, row-room g t n (o .there) (o .placed) (r .long)),
+        (a .0, (a .1, omega (arith, noted-same forward (view g t) n g (o .notable) k (p .noted) q, r .few (getD l k 0) b))),
+      )
+
+  -- after it
+  pub passed-turn :
+      k < many → {s₁ f₁ : List ℕ} {r : Turn} → EntryNoted forward (entryFrom t (start + 3 * getD l k 0)) (getD l k 0) s′ s₁ f′ f₁ r
+      → RowPassed forward (view g t) n (reached l (k + 1)) s s₁ f f₁ (forms && r .forms) (frames + r .frames) (held + r .held) (agree && r .agree)
+  passed-turn q {s₁} {f₁} {r} m =
+      let u = o .notable .listed in
+      let j = getD l k 0 in
+      let z = entry-here g n t j (o .there) (u .below k q) (o .placed) in
+      let e : stateIn (view g t) n j ≡ entryFrom t (start + 3 * j) .state = ap (λ (x : Entry). x .state) z in
+      record {
+        row = row-turn (view g t) n u k (p .row) q (sym e) (m .forms) (m .frames) (entry-small m .0);
+        noted = rw (m .tallies, m .firsts)
+            (noted-turn forward (view g t) n g (o .notable) k (p .noted) q (rw z refl) (rw z refl) (m .agree ∙ rw z refl));
+        held-to = rw (reached-next l k)
+            (omega (
+              arith,
+              listed-turn (λ i. held ≡ count (λ b. hasOn forward (view g t .entry n b)) i) (stateIn (view g t) n) (held-blank forward (view g t) n) u k q (p .held-to),
+              count-next (λ b. hasOn forward (view g t .entry n b)) j,
+              m .held,
+              ap (λ x. one (hasOn forward x)) z,
+            ));
+      }
+
+  pub passed-all :
+      k ≤ many → many ≤ k → {l₀ : List ℕ} → length l ≡ length l₀
+      → RowNoted g forward (view g t) n l₀ l s s′ f f′ (record { forms = forms; frames = frames; held = held; agree = agree })
+  passed-all a b z = record {
+    row = row-all (view g t) n (o .notable .listed) k (p .row) a b;
+    noted = noted-all forward (view g t) n g (o .notable) k (p .noted) a b;
+    held = listed-end (λ i. held ≡ count (λ b. hasOn forward (view g t .entry n b)) i) (stateIn (view g t) n) (held-blank forward (view g t) n) (o .notable .listed) k a b (p .held-to);
+    size = z;
+  }
+
+-- ---- a node
+
+weight-small : (forward : Bool) (w : View) (b n : ℕ) → sideWeight forward w b n ≤ 4096
+unfolding sideWeight
+weight-small forward w b n = by-cases (live w n) (λ e. rw e (omega arith)) (λ e. rw e (omega arith))
+
+tally-le : (forward : Bool) (w : View) (b n : ℕ) → sum (sideWeight forward w b) n ≤ 4096 * n
+unfolding sum
+tally-le forward w b zero = omega arith
+tally-le forward w b (suc n) = omega (arith, tally-le forward w b n, weight-small forward w b n)
+
+pub row-ready :
+    (g : Geometry) (forward : Bool) (w : View) (n : ℕ) {t l s f u : List ℕ} → NodeReady g forward w n t l s f u → RowReady g n t l s f
+row-ready g forward w n r = record {
+  there = r .there;
+  long = r .long;
+  list-room = r .list-room;
+  tallies-room = r .before .noted .tallies-room;
+  firsts-room = r .before .noted .firsts-room;
+  few = λ j l. omega (arith, r .before .tally j l, tally-le forward w j n);
+}
+
+module _ (g : Geometry) (forward : Bool) (lost : Lost) (v : View) (n : ℕ) {mark : ℕ} {form : Bool} (h : mark ≡ survivors lost v .mark n) (m : form ≡ markForm mark)
+    {t l s f u : List ℕ} (r : NodeReady g forward (survivors lost v) n t l s f u) where
+  census-dead : mark ≡ 0 → CensusTo g forward (survivors lost v) (n + 1) s f u
+  unfolding sideWeight
+  census-dead d = record {
+    noted = note-dead g forward lost v n h (r .before .noted) d;
+    tally = λ j k. let z : sideWeight forward (survivors lost v) j n ≡ 0 = rw (← h, eq-eqb mark 0 d) refl in
+        omega (arith, r .before .tally j k, sum-next (sideWeight forward (survivors lost v) j) n {b = 0} refl (sym z));
+    held = λ k q e. elim (ℕ-discrete k n) [
+      | yes z ↦ absurd (no-both e (rw (z, ← h, eq-eqb mark 0 d) refl))
+      | no z ↦ r .before .held k (omega arith) e
+    ];
+    used-room = r .before .used-room;
+  }
+
+  pub node-noted-dead : mark ≡ 0 → NodeNoted g forward (survivors lost v) n l l s f u (record { formed = form; agree = true })
+  node-noted-dead d = record {
+    after = census-dead d;
+    formed = sym (and-true form) ∙ ap₂ _&&_ (m ∙ ap markForm h) (node-dead g (survivors lost v) n mark h d);
+    agree = equal-dead g forward lost v n h d;
+    size = refl;
+  }
+
+  module _ (d : mark ≡ 0 → ⊥) {l′ s′ f′ : List ℕ} {q : Turn} (o : RowNoted g forward v n l l′ s s′ f f′ q) where
+    census-live : CensusTo g forward (survivors lost v) (n + 1) s′ f′ (set u n (q .held))
+    unfolding sideWeight heldOn
+    census-live = record {
+      noted = note-live g forward lost v n h (r .before .noted) d (o .noted);
+      tally = λ j k. o .noted .tallies-row .made j k
+          ∙ sum-next (sideWeight forward (survivors lost v) j) n (r .before .tally j k) (rw (← h, ne-eqb mark 0 d, survivor-entry lost v) refl);
+      held = λ k p e. elim (ℕ-discrete k n) [
+        | yes z ↦ rw z (getD-set-same u n (q .held) 0 (omega (arith, r .there, r .before .used-room)) ∙ o .held ∙ rw (survivor-entry lost v) refl)
+        | no z ↦ getD-set-other u n k (q .held) 0 z ∙ r .before .held k (omega arith) e
+      ];
+      used-room = omega (arith, r .before .used-room, length-set u n (q .held));
+    }
+
+    pub node-noted-live :
+        {frames : ℕ} → frames ≡ setFrames g
+        → NodeNoted g forward (survivors lost v) n l l′ s′ f′ (set u n (q .held)) (record { formed = form && (q .forms && leb (q .frames) frames); agree = q .agree })
+    node-noted-live e = record {
+      after = census-live;
+      formed = ap₂ _&&_ (m ∙ ap markForm h) (row-sound g lost v n h d (o .row) e);
+      agree = equal-live g forward lost v n h (r .before .noted) d (o .noted);
+      size = o .size;
+    }
+
+-- ---- all nodes
+
+-- the mark and the entries of a node hold
+abbrev pub nodeFormed : Geometry → View → ℕ → Bool
+nodeFormed g w k = markForm (w .mark k) && nodeSound g w k
+
+pub census-start : (g : Geometry) (forward : Bool) (w : View) {t l s f u : List ℕ} → Takable g t l s f u → CensusTo g forward w 0 s f u
+census-start g forward w k = record {
+  noted = note-zeros g forward w (k .firsts-room) (k .tallies-room) (k .firsts-zero) (k .tallies-zero);
+  tally = λ j l. k .tallies-zero j l ∙ sum-none (sideWeight forward w j);
+  held = λ n l. absurd (omega arith);
+  used-room = k .used-room;
+}
+
+formed-all : (g : Geometry) (w : View) → every (nodeFormed g w) (g .nodes) ≡ survivorsFormed g w
+unfolding survivorsFormed marksForm nodesSound
+formed-all g w = sym (every-and (λ k. markForm (w .mark k)) (nodeSound g w) (g .nodes))
+
+pub nodes-noted :
+    (g : Geometry) (forward : Bool) (w : View) (n : ℕ) {l l′ s f u : List ℕ} {formed agree : Bool} → n ≤ g .nodes → g .nodes ≤ n → CensusTo g forward w n s f u
+    → formed ≡ every (nodeFormed g w) n → agree ≡ equalTo g forward w n → length l′ ≡ length l
+    → NodesNoted g forward w l l′ s u (record { formed = formed; agree = agree })
+nodes-noted g forward w n {s = s} {f} {u} p q c a b z =
+    let e : n ≡ g .nodes = omega arith in
+    let c′ : CensusTo g forward w (g .nodes) s f u = rw e at c in
+    record {
+      formed = a ∙ ap (every (nodeFormed g w)) e ∙ formed-all g w;
+      agree = b ∙ ap (equalTo g forward w) e;
+      seen = c′ .noted .seen;
+      tally = c′ .tally;
+      tallies-room = c′ .noted .tallies-room;
+      held = c′ .held;
+      used-room = c′ .used-room;
+      size = z;
+    }
+
+-- ---- the census
+
+pub taken :
+    (g : Geometry) (forward : Bool) (w : View) {l l′ s u : List ℕ} {found : Found} {kinds : Kinds} → NodesNoted g forward w l l′ s u found → KindsTold (g .items) s kinds
+    → TakenIn g forward w l l′ s u (record { formed = found .formed; fit = kinds .seen && found .agree; plain = kinds .plain })
+taken g forward w {s = s} n k = record {
+  taken = record {
+    formed = n .formed;
+    fit = notes-fit g forward w s (n .seen) (n .agree) (k .seen);
+    plain = k .plain;
+    tally = n .tally;
+    tallies-room = n .tallies-room;
+    held = n .held;
+    used-room = n .used-room;
+  };
+  size = n .size;
+}
