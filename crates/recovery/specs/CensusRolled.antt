@@ -1,6 +1,6 @@
 -- What the census tells of the survivors before they roll holds of them rolled: the tallies are those of their Shared-CKs, each recovery copy takes one
 -- frame, and where no item has two of one number numbering stores nothing.
-use Prim.Native.Nat.{ℕ, _*_, _/_, _%_, _≤_, _<_}
+use Prim.Native.Nat.{ℕ, zero, suc, _*_, _/_, _%_, _<_, _+_}
 use mathlib.Core.Path.{_≡_, refl, sym, ap, _∙_}
 use mathlib.Core.Bool.{Bool, true, not}
 use mathlib.Core.List.{List, [], map}
@@ -8,10 +8,10 @@ use mathlib.Core.Logic.{_≢_}
 use native.Mathlib.Omega.{arith}
 use native.Mathlib.Decide.{ℕ-discrete}
 use lib.Dec.{eqb}
-use lib.ListN.{length, getD}
+use lib.ListN.{getD}
 use borrow.Author.Tests.{ne-eqb}
 use Rattle.counting.specs.Tests.{by-cases}
-use Rattle.counting.specs.Counting.{every, every-at, sum, sum-ext, one, sum-count}
+use Rattle.counting.specs.Counting.{every, every-at, sum, sum-ext, one, count, sum-count}
 use Rattle.table.specs.declared.geometry.Geometry.{Geometry}
 use Rattle.table.specs.Words.{stateForm}
 use Rattle.table.specs.Changes.{checkpointOf}
@@ -20,6 +20,7 @@ use Rattle.table.specs.View.{Entry, View, live, current, updates}
 use Rattle.table.specs.Copies.{copyNumber}
 use Rattle.table.specs.Pass.{Each}
 use Rattle.entries.specs.Frames.{framesIn, used, frames-here}
+use Rattle.entries.specs.Tally.{has}
 use Rattle.homes.specs.Kept.{Live, test-live}
 use Rattle.checkpoints.specs.Checkpoint.{entriesTo}
 use Rattle.checkpoints.specs.LivePass.{AllPassed, liveEach, entries-via}
@@ -27,7 +28,8 @@ use Rattle.recovery.specs.Sides.{copyOn}
 use Rattle.recovery.specs.Rolling.{rollChange}
 use Rattle.recovery.specs.Numbering.{numberStores}
 use Rattle.recovery.specs.Notes.{numberWeight}
-use Rattle.recovery.specs.Tallies.{share, weightOf, weightIn, Tallied, plain, plain-nothing}
+use Rattle.recovery.specs.Tallies.{tallyOf, Tallied, plain, plain-nothing}
+use Rattle.recovery.specs.NumberingCode.{Unkept}
 use Rattle.recovery.specs.Census.{hasOn, sideWeight, heldOn}
 use Rattle.recovery.specs.RollingCode.{runs-empty}
 use Rattle.recovery.specs.RecoverStages.{column-within}
@@ -37,22 +39,26 @@ use Rattle.recovery.specs.PlainSides.{plain-number}
 use Rattle.recovery.specs.RollEntry.{SafeOn, Rolled, roll-steps}
 use Rattle.recovery.specs.StagedVia.{via-end}
 
+sum-counts : (n : ℕ) (p q : ℕ → Bool) (f : ℕ → ℕ) → ((i : ℕ) → i < n → f i ≡ one (p i) + 1024 * one (q i)) → sum f n ≡ count p n + 1024 * count q n
+unfolding sum count
+sum-counts zero p q f h = refl
+sum-counts (suc n) p q f h = omega (arith, sum-counts n p q f (λ i l. h i (omega arith)), h n (omega arith))
+
 -- ---- a plain entry, by the number of its copy
 
-module _ (e : Entry) (p : PlainEntry (e .value) e) {number : ℕ} (h : checkpointOf (current e) ≡ number) where
-  plain-weight : weightOf (e .state) ≡ numberWeight number
-  unfolding weightOf share
+module _ (e : Entry) {number : ℕ} (h : checkpointOf (current e) ≡ number) where
+  plain-weight : numberWeight number ≡ one (eqb (current e) 4) + 1024 * one (eqb (current e) 5)
   plain-weight = elim (ℕ-discrete (current e) 4) [
-    | yes c ↦ (let n : number ≡ 1 = sym h ∙ rw c refl in rw (n, c, p .nothing) refl)
+    | yes c ↦ (let n : number ≡ 1 = sym h ∙ rw c refl in rw (n, c) refl)
     | no c ↦ elim (ℕ-discrete (current e) 5) [
-      | yes d ↦ (let n : number ≡ 2 = sym h ∙ rw d refl in rw (n, d, p .nothing) refl)
+      | yes d ↦ (let n : number ≡ 2 = sym h ∙ rw d refl in rw (n, d) refl)
       | no d ↦ (let n : number ≡ 0 = sym h ∙ rw (ne-eqb _ 4 c, ne-eqb _ 5 d) refl in rw (n, ne-eqb _ 4 c, ne-eqb _ 5 d) refl)
     ]
   ]
 
-  plain-frames : framesIn (e .state) ≡ one (not (eqb number 0))
+  plain-frames : PlainEntry (e .value) e → framesIn (e .state) ≡ one (not (eqb number 0))
   unfolding framesIn
-  plain-frames = elim (ℕ-discrete (current e) 0) [
+  plain-frames p = elim (ℕ-discrete (current e) 0) [
     | yes c ↦ (let n : number ≡ 0 = sym h ∙ rw c refl in rw (n, c, p .nothing) refl)
     | no c ↦ (let n : number ≢ 0 = λ z. p .code c (h ∙ z) in rw (ne-eqb number 0 n, ne-eqb _ 0 c, p .nothing) refl)
   ]
@@ -79,24 +85,25 @@ module _ (g : Geometry) (forward : Bool) (w : View) (forms : (n b : ℕ) → Liv
     rolled-number : checkpointOf (current (rolled .entry n b)) ≡ copyNumber (copyOn forward (w .entry n b))
     rolled-number = sym (plain-number _ (rolled .entry n b) rolled-plain forward) ∙ ap copyNumber (ended .0 .entries n b l h .copy)
 
-  rolled-weight : (n b : ℕ) → n < g .nodes → b < g .items → sideWeight forward w b n ≡ weightIn rolled b n
-  unfolding sideWeight weightIn
+  rolled-weight : (n b : ℕ) → n < g .nodes → b < g .items → sideWeight forward w b n ≡ one (has rolled b 4 n) + 1024 * one (has rolled b 5 n)
+  unfolding sideWeight
   rolled-weight n b k h = by-cases (live w n)
-      (λ a. rw (rolled-live n, a) (sym (plain-weight (rolled .entry n b) (rolled-plain n b (test-live g w n k a) h) (rolled-number n b (test-live g w n k a) h))))
+      (λ a. rw (rolled-live n, a) (plain-weight (rolled .entry n b) (rolled-number n b (test-live g w n k a) h)))
       (λ a. rw (rolled-live n, a) refl)
 
-  pub rolled-tallied : {s : List ℕ} → ((j : ℕ) → j < g .items → getD s j 0 ≡ sum (sideWeight forward w j) (g .nodes)) → g .items ≤ length s → Tallied g rolled (g .nodes) s
-  rolled-tallied tally room = record {
-    at = λ j h. tally j h ∙ sum-ext (g .nodes) (sideWeight forward w j) (weightIn rolled j) (λ n k. rolled-weight n j k h);
-    room = room;
-  }
+  pub rolled-tallied : (s : List ℕ) → ((j : ℕ) → j < g .items → getD s j 0 ≡ sum (sideWeight forward w j) (g .nodes)) → Tallied g rolled s
+  unfolding tallyOf
+  rolled-tallied s tally j h = tally j h ∙ sum-counts (g .nodes) (has rolled j 4) (has rolled j 5) (sideWeight forward w j) (λ n k. rolled-weight n j k h)
+
+  pub rolled-unkept : Unkept g rolled
+  rolled-unkept n b k h a = rolled-plain n b (test-live g w n k (sym (rolled-live n) ∙ a)) h .nothing
 
   rolled-used : (n : ℕ) → Live g w n → heldOn g forward w n ≡ used g rolled n 0
   unfolding heldOn used
   rolled-used n l =
       sym (sum-count (λ b. hasOn forward (w .entry n b)) (g .items))
       ∙ sum-ext (g .items) _ _
-      (λ b h. frames-here g rolled n 0 b refl refl (sym (plain-frames (rolled .entry n b) (rolled-plain n b l h) (rolled-number n b l h))))
+      (λ b h. frames-here g rolled n 0 b refl refl (sym (plain-frames (rolled .entry n b) (rolled-number n b l h) (rolled-plain n b l h))))
 
   pub rolled-agrees : {u : List ℕ} → ((n : ℕ) → n < g .nodes → live w n ≡ true → getD u n 0 ≡ heldOn g forward w n) → AgreesTo g rolled u (g .nodes)
   rolled-agrees held = record { at = λ n k a. let v = sym (rolled-live n) ∙ a in held n k v ∙ rolled-used n (test-live g w n k v) }
@@ -104,10 +111,12 @@ module _ (g : Geometry) (forward : Bool) (w : View) (forms : (n b : ℕ) → Liv
 -- ---- no item has two of one number
 
 pub plain-numbers :
-    (g : Geometry) (u : View) {s : List ℕ} → g .nodes < 256 → Tallied g u (g .nodes) s → every (λ j. plain (getD s j 0)) (g .items) ≡ true
+    (g : Geometry) (u : View) (s : List ℕ) → g .nodes < 256 → Tallied g u s → Unkept g u → every (λ j. plain (getD s j 0)) (g .items) ≡ true
     → numberStores g u ≡ []
 unfolding numberStores
-plain-numbers g u {s} small t all =
+plain-numbers g u s small t k all =
     runs-empty (g .items * g .nodes) _
-    (λ k h. let (n, b) = column-within g k h in
-    ap (map (entryStore (k % g .nodes) (k / g .nodes))) (plain-nothing g u (k % g .nodes) (k / g .nodes) small n (t .at (k / g .nodes) b) (every-at (g .items) _ all (k / g .nodes) b)))
+    (λ d h. let (l, hb) = column-within g d h in
+    let n = d % g .nodes in
+    let b = d / g .nodes in
+    ap (map (entryStore n b)) (plain-nothing g u b small (t b hb) n l (k n b l hb) (every-at (g .items) _ all b hb)))

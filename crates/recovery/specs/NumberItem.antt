@@ -1,13 +1,14 @@
 -- One item under the numbering: what its entries become leaves a holder of each number, or a single copy.
-use Prim.Native.Nat.{ℕ, _+_, _-_, _≤_, _<_}
+use Prim.Native.Nat.{ℕ, zero, suc, _+_, _-_, _≤_, _<_}
 use mathlib.Core.Path.{_≡_, sym, ap, _∙_}
 use mathlib.Core.Logic.{_≢_}
 use mathlib.Core.Bool.{Bool, true, not}
 use native.Mathlib.Omega.{arith}
 use native.Mathlib.Decide.{ℕ-discrete, decLt}
 use lib.Dec.{eqb}
-use Rattle.counting.specs.Tests.{no-both}
-use Rattle.counting.specs.Counting.{count, count-some, none-counted, Only}
+use borrow.Author.Tests.{ne-eqb}
+use Rattle.counting.specs.Tests.{by-cases, no-both}
+use Rattle.counting.specs.Counting.{one, count, count-some, none-counted, Only, only-counts}
 use Rattle.table.specs.declared.geometry.Geometry.{Geometry}
 use Rattle.table.specs.Changes.{checkpointOf}
 use Rattle.table.specs.View.{Entry, View, live, current}
@@ -15,7 +16,8 @@ use Rattle.entries.specs.Tally.{has, copy}
 use Rattle.entries.specs.Kinds.{has-live, has-code, has-at, has-copy, copy-live, copy-code}
 use Rattle.recovery.specs.Rolling.{sharedCK}
 use Rattle.recovery.specs.Numbering.{holders, numberAfter, numberAt}
-use Rattle.recovery.specs.Ready.{Numbered, pair, alone}
+use Rattle.recovery.specs.Tallies.{holdersOf}
+use Rattle.recovery.specs.Ready.{Paired, Numbered, pair, alone}
 use Rattle.counting.specs.Ranks.{Ranked, count-above, ranked}
 use Rattle.recovery.specs.NumberEntry.{Coded, code-number, number-code, After, stays, turns, goes, number-after, after-lowest, after-second}
 
@@ -27,6 +29,29 @@ pub record NumberEnd (g : Geometry) (u : View) (n b : ℕ) (e : Entry) : Type 0 
       → current e ≡ numberAfter (numberAt u n b) (holders u b (numberAt u n b) n) (holders u b (3 - numberAt u n b) (g .nodes))
 
 -- u at the start, x at the end
+-- a holder of either number is a copy
+has-either : (w : View) (b n : ℕ) → one (has w b 4 n) + one (has w b 5 n) ≤ one (copy w b n)
+has-either w b n =
+    by-cases (live w n)
+    (λ e. elim (ℕ-discrete (current (w .entry n b)) 4) [
+      | yes c ↦ rw (e, c) (omega arith)
+      | no c ↦ elim (ℕ-discrete (current (w .entry n b)) 5) [
+        | yes d ↦ rw (e, d) (omega arith)
+        | no d ↦ rw (e, ne-eqb _ 4 c, ne-eqb _ 5 d) (omega arith)
+      ]
+    ])
+    (λ e. rw e (omega arith))
+
+pair-copies : (w : View) (b n : ℕ) → count (has w b 4) n + count (has w b 5) n ≤ count (copy w b) n
+unfolding count
+pair-copies w b zero = omega arith
+pair-copies w b (suc n) = omega (arith, pair-copies w b n, has-either w b n)
+
+-- what numbering makes of item b's holders in u: of two or more not one copy, of one or none one
+pub record Told (g : Geometry) (u x : View) (b : ℕ) : Type 0 where
+  pub many : 1 < holdersOf g u b → count (copy x b) (g .nodes) ≢ 1
+  pub single : holdersOf g u b ≤ 1 → count (copy x b) (g .nodes) ≡ 1
+
 module _ (g : Geometry) (u x : View) (b : ℕ) (same : x .mark ≡ u .mark) (ends : (n : ℕ) → n < g .nodes → NumberEnd g u n b (x .entry n b)) where
   same-live : (n : ℕ) → live x n ≡ live u n
   same-live n = ap (λ f. not (eqb (f n) 0)) same
@@ -138,40 +163,57 @@ module _ (g : Geometry) (u x : View) (b : ℕ) (same : x .mark ≡ u .mark) (end
               absurd (no-both (was-held k l t j q) (none-counted (g .nodes) (held j) d k l)))
         ]
 
-  -- a holder of a number at the start is enough
-  pub item-numbered : (m : ℕ) → m < g .nodes → live u m ≡ true → numberAt u m b ≢ 0 → Numbered g x b
-  item-numbered m l h d = elim (ℕ-discrete ones 0) [
-    | yes e ↦ elim (decLt 1 twos) [
-      | yes f ↦ paired (takes-only 1 2 (omega arith) (omega arith) (omega arith) e f) (stays-only 2 1 (omega arith) (omega arith) (omega arith) (omega arith))
-      | no f ↦ single (single-only 2 1 (omega arith) (omega arith) (omega arith) (omega (arith, some)) e)
-    ]
+  abbrev ones : ℕ
+  ones = count (held 1) (g .nodes)
+
+  abbrev twos : ℕ
+  twos = count (held 2) (g .nodes)
+
+  paired : (m : ℕ) × Only (g .nodes) (has x b 4) m → (m : ℕ) × Only (g .nodes) (has x b 5) m → Paired g x b
+  paired (p, o) (q, r) = record { one = p; two = q; first = o; second = r }
+
+  -- with two holders or more a pair is left
+  pair-left : 2 ≤ ones + twos → Paired g x b
+  pair-left h = elim (ℕ-discrete ones 0) [
+    | yes e ↦ paired (takes-only 1 2 (omega arith) (omega arith) (omega arith) e (omega arith)) (stays-only 2 1 (omega arith) (omega arith) (omega arith) (omega arith))
     | no e ↦ elim (ℕ-discrete twos 0) [
       | no f ↦ paired (stays-only 1 2 (omega arith) (omega arith) (omega arith) (omega arith)) (stays-only 2 1 (omega arith) (omega arith) (omega arith) (omega arith))
-      | yes f ↦ elim (decLt 1 ones) [
-        | yes k ↦ paired (stays-only 1 2 (omega arith) (omega arith) (omega arith) (omega arith)) (takes-only 2 1 (omega arith) (omega arith) (omega arith) f k)
-        | no k ↦ single (single-only 1 2 (omega arith) (omega arith) (omega arith) (omega arith) f)
-      ]
+      | yes f ↦ paired (stays-only 1 2 (omega arith) (omega arith) (omega arith) (omega arith)) (takes-only 2 1 (omega arith) (omega arith) (omega arith) f (omega arith))
     ]
   ]
-    where
-      ones : ℕ
-      ones = count (held 1) (g .nodes)
 
-      twos : ℕ
-      twos = count (held 2) (g .nodes)
+  -- a single one stays alone
+  single-left : ones + twos ≡ 1 → (m : ℕ) × Only (g .nodes) (copy x b) m
+  single-left h = elim (ℕ-discrete ones 0) [
+    | yes e ↦ single-only 2 1 (omega arith) (omega arith) (omega arith) (omega arith) e
+    | no e ↦ single-only 1 2 (omega arith) (omega arith) (omega arith) (omega arith) (omega arith)
+  ]
 
-      some : 1 ≤ ones + twos
-      some =
-          let k = number-code (current (u .entry m b)) d in
-          elim (ℕ-discrete (numberAt u m b) 1) [
-            | yes e ↦ omega (arith, count-some (g .nodes) (has u b 4) m l (has-at u b m 4 h (k .code ∙ ap sharedCK e)))
-            | no e ↦
-                (let q : numberAt u m b ≡ 2 = omega (arith, k .low, k .high) in
-                omega (arith, count-some (g .nodes) (has u b 5) m l (has-at u b m 5 h (k .code ∙ ap sharedCK q))))
-          ]
+  -- a holder of a number at the start is enough
+  module _ (m : ℕ) (l : m < g .nodes) (h : live u m ≡ true) (d : numberAt u m b ≢ 0) where
+    some : 1 ≤ ones + twos
+    some =
+        let k = number-code (current (u .entry m b)) d in
+        elim (ℕ-discrete (numberAt u m b) 1) [
+          | yes e ↦ omega (arith, count-some (g .nodes) (has u b 4) m l (has-at u b m 4 h (k .code ∙ ap sharedCK e)))
+          | no e ↦
+              (let q : numberAt u m b ≡ 2 = omega (arith, k .low, k .high) in
+              omega (arith, count-some (g .nodes) (has u b 5) m l (has-at u b m 5 h (k .code ∙ ap sharedCK q))))
+        ]
 
-      paired : (m : ℕ) × Only (g .nodes) (has x b 4) m → (m : ℕ) × Only (g .nodes) (has x b 5) m → Numbered g x b
-      paired (p, o) (q, r) = pair (record { one = p; two = q; first = o; second = r })
+    pub item-numbered : Numbered g x b
+    item-numbered = elim (decLt 1 (ones + twos)) [
+      | yes f ↦ pair (pair-left f)
+      | no f ↦ single (single-left (omega (arith, some)))
+    ]
+      where
+        single : (m : ℕ) × Only (g .nodes) (copy x b) m → Numbered g x b
+        single (p, o) = alone p o
 
-      single : (m : ℕ) × Only (g .nodes) (copy x b) m → Numbered g x b
-      single (p, o) = alone p o
+    pub item-told : Told g u x b
+    item-told = record {
+      many = λ f e.
+          let p = pair-left f in
+          omega (arith, e, only-counts (g .nodes) (has x b 4) (p .one) (p .first), only-counts (g .nodes) (has x b 5) (p .two) (p .second), pair-copies x b (g .nodes));
+      single = λ f. let (p, o) = single-left (omega (arith, some)) in only-counts (g .nodes) (copy x b) p o;
+    }

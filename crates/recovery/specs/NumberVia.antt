@@ -26,7 +26,7 @@ use Rattle.recovery.specs.Numbering.{holders, numberAfter, numberAt, num
 use Rattle.recovery.specs.Ready.{HasOne, Plain, Numbered}
 use Rattle.counting.specs.Ranks.{ranked}
 use Rattle.recovery.specs.NumberEntry.{Coded, code-number, number-code, SafeNumber, number-begins, number-steps}
-use Rattle.recovery.specs.NumberItem.{NumberEnd, item-numbered}
+use Rattle.recovery.specs.NumberItem.{NumberEnd, Told, item-numbered, item-told}
 
 -- by item, then node: place k is item k / N, node k % N
 pub columns-within : (g : Geometry) (k : ℕ) → k < g .items * g .nodes → (k % g .nodes < g .nodes) × (k / g .nodes < g .items)
@@ -108,7 +108,7 @@ module _ (g : Geometry) (saved : ℕ → ℕ) (w u : View) (plain : Plain g save
     -- at the end
     all-numbered :
         Passed (λ k. k % g .nodes) (λ k. k / g .nodes) (λ k. NumberEnd g u (k % g .nodes) (k / g .nodes)) u (g .items * g .nodes) x
-        → (b : ℕ) → b < g .items → Numbered g x b
+        → (b : ℕ) → b < g .items → Numbered g x b × Told g u x b
     all-numbered px b hb = from-one (plain .there b hb)
       where
         end-at : (n : ℕ) → n < g .nodes → NumberEnd g u n b (x .entry n b)
@@ -116,14 +116,17 @@ module _ (g : Geometry) (saved : ℕ → ℕ) (w u : View) (plain : Plain g save
             let e = px .good (b * g .nodes + n) (digits-lt hb hn) in
             rw (digits-div b hn, digits-mod b hn) at e
 
-        from-one : (n : ℕ) × HasOne g u b n → Numbered g x b
+        from-one : (n : ℕ) × HasOne g u b n → Numbered g x b × Told g u x b
         from-one (n, o) =
-            item-numbered g u x b (ex .marks) end-at n (o .alive .there) (live-test g u n (o .alive)) (plain .entries n b (o .alive) hb .code (o .copied))
+            let held = plain .entries n b (o .alive) hb .code (o .copied) in (
+              item-numbered g u x b (ex .marks) end-at n (o .alive .there) (live-test g u n (o .alive)) held,
+              item-told g u x b (ex .marks) end-at n (o .alive .there) (live-test g u n (o .alive)) held,
+            )
 
 -- THE LAW
 pub number-via :
     (g : Geometry) (saved : ℕ → ℕ) (w u : View) → Plain g saved w u
-    → Via g (Plain g saved w) (λ x. (b : ℕ) → b < g .items → Numbered g x b) u (numberStores g u)
+    → Via g (Plain g saved w) (λ x. (b : ℕ) → b < g .items → Numbered g x b × Told g u x b) u (numberStores g u)
 unfolding numberStores
 number-via g saved w u plain =
     via-loosen

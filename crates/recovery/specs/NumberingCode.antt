@@ -8,27 +8,28 @@ use native.Mathlib.Decide.{ℕ-discrete, decLt}
 use native.Mathlib.Nat.{mod-lt, div-lt-iff-lt-mul}
 use lib.Arith.{digits-div, digits-mod}
 use lib.Dec.{eqb}
-use lib.ListN.{length}
+use lib.ListN.{length, getD}
 use borrow.Author.Tests.{eq-eqb, ne-eqb}
 use Rattle.counting.specs.Tests.{by-cases}
-use Rattle.counting.specs.Counting.{one, Counted, sum, count-none, count-next, count-le, count-ext}
+use Rattle.counting.specs.Counting.{one, Counted, count-none, count-next, count-le, count-ext}
 use Rattle.table.specs.declared.geometry.Geometry.{Geometry}
 use Rattle.table.specs.Geometry.{wordsOf}
 use Rattle.table.specs.Words.{invalid, sharedCK1, sharedCK2, currentOf}
 use Rattle.table.specs.Changes.{checkpointOf}
 use Rattle.table.specs.Stores.{Store, Change, Stored, entryStore, runs, runs-ext, runs-add, stored-then, stored-as, stored-none, loop-starts, loop-turns}
-use Rattle.table.specs.View.{Entry, View, view, live, current}
+use Rattle.table.specs.View.{Entry, View, view, live, current, kept}
 use Rattle.table.specs.Pass.{pass, grid-once}
 use Rattle.table.specs.PassLeaves.{pass-marks, pass-entry}
 use Rattle.entries.specs.Tally.{has}
 use Rattle.recovery.specs.declared.lost.Lost.{Lost}
 use Rattle.recovery.specs.declared.numbering.Holders.{Holders}
+use Rattle.recovery.specs.Followed.{stored-any}
 use Rattle.recovery.specs.Survivors.{survivors}
 use Rattle.recovery.specs.Rolling.{sharedCK, settled}
 use Rattle.recovery.specs.Numbering.{holders, numberAfter, numberAt, numberChange, numberStores}
 use Rattle.recovery.specs.SurvivorsCode.{survivor-entry}
 use Rattle.recovery.specs.RollingCode.{survivor-marks, runs-empty}
-use Rattle.recovery.specs.Tallies.{plain, weightIn, plain-nothing}
+use Rattle.recovery.specs.Tallies.{Tallied, plain, plain-nothing}
 
 -- ---- the copy of one node
 
@@ -218,17 +219,30 @@ module _ (g : Geometry) (lost : Lost) (b n : ℕ) (hn : n < g .nodes) (hb : b < 
       ∙ ap (numberBy c lower all) (sym turn-entry) in
       loop-turns _ n s (stored-as (ap (map (entryStore n b)) same) r)
 
--- what an item's turn needs: by its tally there may be nothing to do
-pub record Numberable (g : Geometry) (lost : Lost) (t : List ℕ) (b tally : ℕ) : Type 0 where
+-- what an item's turn needs: by its tally there may be nothing to do, while anything is left of the limit
+pub record Numberable (g : Geometry) (lost : Lost) (left : ℕ) (t : List ℕ) (b tally : ℕ) : Type 0 where
   pub there : b < g .items
   pub long : wordsOf g ≤ length t
-  pub nothing : plain tally ≡ true → (n : ℕ) → n < g .nodes → numberChange g (survivors lost (view g t)) n b ≡ []
+  pub nothing : (left ≡ 0 → ⊥) → plain tally ≡ true → (n : ℕ) → n < g .nodes → numberChange g (survivors lost (view g t)) n b ≡ []
 
 pub number-nothing :
-    (g : Geometry) (lost : Lost) {left b tally : ℕ} {t : List ℕ} → Numberable g lost t b tally → plain tally ≡ true
+    (g : Geometry) (lost : Lost) {left b tally : ℕ} {t : List ℕ} → Numberable g lost left t b tally → plain tally ≡ true
     → Stored g left (pass (λ d. d) (λ d. b) (λ d. numberChange g (survivors lost (view g t)) d b) (g .nodes)) t t left
-number-nothing g lost {left} {b} {tally} {t} h p =
-    stored-as (runs-empty (g .nodes) _ (λ n l. ap (map (entryStore n b)) (h .nothing p n l))) (stored-none g left t)
+number-nothing g lost {left} {b} {tally} {t} h p = elim (ℕ-discrete left 0) [
+  | yes z ↦ rw z (stored-any (pass (λ d. d) (λ d. b) (λ d. numberChange g (survivors lost (view g t)) d b) (g .nodes)) (stored-none g 0 t))
+  | no z ↦ stored-as (runs-empty (g .nodes) _ (λ n l. ap (map (entryStore n b)) (h .nothing z p n l))) (stored-none g left t)
+]
+
+-- nothing is kept by a survivor
+abbrev pub Unkept : Geometry → View → Type 0
+Unkept g w = (n b : ℕ) → n < g .nodes → b < g .items → live w n ≡ true → kept (w .entry n b) ≡ 0
+
+-- what all of them need
+pub record Numbering (g : Geometry) (lost : Lost) (left : ℕ) (t s : List ℕ) : Type 0 where
+  pub long : wordsOf g ≤ length t
+  pub room : g .items ≤ length s
+  pub tallied : (left ≡ 0 → ⊥) → Tallied g (survivors lost (view g t)) s
+  pub unkept : (left ≡ 0 → ⊥) → Unkept g (survivors lost (view g t))
 
 -- ---- all items: an item's row is found as it was at the start
 
@@ -283,11 +297,13 @@ module _ (g : Geometry) (lost : Lost) (b : ℕ) (hb : b < g .items) {left left�
 
   -- an item's turn, by its tally at the start
   pub numbers-ready :
-      {tally : ℕ} → g .nodes < 256 → tally ≡ sum (weightIn (survivors lost (view g t)) b) (g .nodes) → Numberable g lost t₁ b tally
-  numbers-ready small e = record {
+      {tally : ℕ} {tallies : List ℕ} → g .nodes < 256 → Numbering g lost left t tallies → tally ≡ getD tallies b 0 → Numberable g lost left₁ t₁ b tally
+  numbers-ready small u e = record {
     there = hb;
     long = omega (arith, s .size);
-    nothing = λ p n l. row-found n ∙ plain-nothing g (survivors lost (view g t)) n b small l e p;
+    nothing = λ z p n l.
+        let more : left ≡ 0 → ⊥ = λ q. z (omega (arith, s .rest)) in
+        row-found n ∙ plain-nothing g (survivors lost (view g t)) b small (e ∙ u .tallied more b hb) n l (u .unkept more n b l hb) p;
   }
 
   pub numbers-turn :

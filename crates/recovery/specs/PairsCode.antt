@@ -1,20 +1,16 @@
--- Numbering and partners on the rolled survivors, as the code goes: by the census, or, where an item has two recovery copies of one number, by counts of
--- their own.
-use Prim.Native.Nat.{ℕ, _/_, _%_, _≤_, _<_}
-use mathlib.Core.Path.{_≡_, refl, sym, ap, subst, _∙_}
-use mathlib.Core.Bool.{Bool, true, false}
+-- Numbering and partners on the rolled survivors, as the code goes: by what the census told of them before they rolled.
+use Prim.Native.Nat.{ℕ, _≤_, _<_}
+use mathlib.Core.Path.{_≡_, sym, ap, subst, _∙_}
+use mathlib.Core.Bool.{Bool, true}
 use mathlib.Core.List.{List, []}
 use native.Mathlib.Omega.{arith}
 use native.Mathlib.Decide.{ℕ-discrete}
 use lib.ListN.{length, getD}
-use borrow.Author.Tests.{ne-eqb}
-use Rattle.counting.specs.Tests.{no-both}
-use Rattle.counting.specs.Counting.{every, sum, count, only-counts}
+use Rattle.counting.specs.Counting.{every, sum}
 use Rattle.table.specs.declared.geometry.Geometry.{Geometry}
 use Rattle.table.specs.Geometry.{wordsOf}
 use Rattle.table.specs.Stores.{Store, Stored, All, stored-none}
 use Rattle.table.specs.View.{View, view, updates, live}
-use Rattle.entries.specs.Tally.{copy, has}
 use Rattle.checkpoints.specs.Checkpoint.{entriesTo}
 use Rattle.recovery.specs.declared.lost.Lost.{Lost}
 use Rattle.recovery.specs.Survivors.{survivors}
@@ -24,59 +20,31 @@ use Rattle.recovery.specs.Numbering.{numberStores}
 use Rattle.recovery.specs.Partners.{partnersStores}
 use Rattle.recovery.specs.ClosingMarks.{largestNumber}
 use Rattle.recovery.specs.Recover.{survivorsFormed}
-use Rattle.recovery.specs.Tallies.{weightIn, shareIn, tally-shares, shares-le, holders-shares, Tallied, plain}
+use Rattle.recovery.specs.Tallies.{Tallied, plain, holders-told}
+use Rattle.recovery.specs.NumberingCode.{Unkept, Numbering}
 use Rattle.recovery.specs.Followed.{Entered, stored-any, view-left, entered-within, survivors-entered}
 use Rattle.recovery.specs.PartnersCounts.{AgreesTo}
-use Rattle.recovery.specs.PartnersCode.{Ready, Turned, FilledFrom}
-use Rattle.recovery.specs.PartnersSkip.{skips, Settled, Settles, Tallying}
+use Rattle.recovery.specs.PartnersCode.{Ready, Turned, Filled, FilledFrom, filled-ready, filled-then}
+use Rattle.recovery.specs.PartnersSkip.{Settled, Settles}
 use Rattle.recovery.specs.RecoverStages.{entered-roll, entered-number}
-use Rattle.recovery.specs.Ready.{Numbered, pair, alone}
 use Rattle.recovery.specs.RollVia.{roll-via}
 use Rattle.recovery.specs.NumberVia.{number-via}
 use Rattle.recovery.specs.StagedVia.{via-end}
 use Rattle.recovery.specs.AnyTable.{found, any-ready}
 use Rattle.recovery.specs.Census.{sideWeight, heldOn}
-use Rattle.recovery.specs.CensusRolled.{rolled-tallied, rolled-agrees, plain-numbers}
-
--- ---- what numbering leaves
-
--- a holder of a number has its share
-held-share : (g : Geometry) (w : View) (b code : ℕ) → count (has w b code) (g .nodes) ≡ 1 → 1 ≤ sum (shareIn w b code) (g .nodes)
-held-share g w b code e = omega (arith, holders-shares w b code (g .nodes))
-
-numbered-settled :
-    (g : Geometry) (w : View) (b : ℕ) → g .nodes < 256 → Numbered g w b → skips (sum (weightIn w b) (g .nodes)) ≡ false → count (copy w b) (g .nodes) ≡ 1
-numbered-settled g w b small (alone n o) e = only-counts (g .nodes) (copy w b) n o
-numbered-settled g w b small (pair p) e = absurd (no-both both-there e)
-  where
-    tally : ℕ
-    tally = sum (weightIn w b) (g .nodes)
-
-    first-there : tally % 1024 ≡ 0 → ⊥
-    first-there z = omega (arith, z, tally-shares w b (g .nodes), shares-le w b 4 (g .nodes), held-share g w b 4 (only-counts (g .nodes) (has w b 4) (p .one) (p .first)))
-
-    second-there : tally / 1024 ≡ 0 → ⊥
-    second-there z = omega (arith, z, tally-shares w b (g .nodes), shares-le w b 4 (g .nodes), held-share g w b 5 (only-counts (g .nodes) (has w b 5) (p .two) (p .second)))
-
-    both-there : skips tally ≡ true
-    both-there = rw (ne-eqb _ 0 first-there, ne-eqb _ 0 second-there) refl
+use Rattle.recovery.specs.CensusRolled.{rolled-tallied, rolled-unkept, rolled-agrees, plain-numbers}
 
 -- ---- what the code needs
 
--- no item has two recovery copies of one number, and the census tells of w
-pub record Plainly (g : Geometry) (w : View) (tallies u : List ℕ) : Type 0 where
-  pub nothing : numberStores g w ≡ []
-  pub tallied : Tallied g w (g .nodes) tallies
-  pub agrees : AgreesTo g w u (g .nodes)
-
 pub record Pairable (g : Geometry) (lost : Lost) (left : ℕ) (plain : Bool) (t s tallies u : List ℕ) : Type 0 where
-  pub long : wordsOf g ≤ length t
   pub room : g .nodes ≤ length s
-  pub items : g .items ≤ 256
   pub used-room : g .nodes ≤ length u
-  -- while anything is left of the limit
-  pub settled : (left ≡ 0 → ⊥) → Settled g (updates (numberStores g (survivors lost (view g t))) (survivors lost (view g t)))
-  pub plainly : plain ≡ true → (left ≡ 0 → ⊥) → Plainly g (survivors lost (view g t)) tallies u
+  pub numbering : Numbering g lost left t tallies
+  -- while anything is left of the limit: numbering leaves each item a pair or a single copy; where no item has two recovery copies of one number it has
+  -- nothing to do, and the frames in use are those of the census
+  pub settled : (left ≡ 0 → ⊥) → Settled g (updates (numberStores g (survivors lost (view g t))) (survivors lost (view g t))) tallies
+  pub nothing : plain ≡ true → (left ≡ 0 → ⊥) → numberStores g (survivors lost (view g t)) ≡ []
+  pub agrees : plain ≡ true → (left ≡ 0 → ⊥) → AgreesTo g (survivors lost (view g t)) u (g .nodes)
 
 -- what it owes: the stores of both stages, and the scratch
 pub record Pairs (g : Geometry) (lost : Lost) (left : ℕ) (t t′ s s′ : List ℕ) (left′ : ℕ) : Type 0 where
@@ -85,25 +53,22 @@ pub record Pairs (g : Geometry) (lost : Lost) (left : ℕ) (t t′ s s′ : List
   pub numbered : Stored g left (numberStores g (survivors lost (view g t))) t between left-between
   pub partnered : Turned g lost (partnersStores g) left-between between t′ s s′ left′
 
--- ---- by the census
-
 module _ (g : Geometry) (lost : Lost) {left : ℕ} {plain : Bool} {t s tallies u : List ℕ} (p : Pairable g lost left plain t s tallies u) where
   abbrev w : View
   w = survivors lost (view g t)
 
+  -- ---- nothing to number
+
   module _ (e : plain ≡ true) where
-    pub plain-tallying : Tallying g lost left t tallies
-    plain-tallying = record {
-      tallied = λ z. p .plainly e z .tallied;
-      settled = λ z. subst (λ (ss : List Store). Settled g (updates ss w)) (p .plainly e z .nothing) (p .settled z);
-    }
+    pub plain-settles : Settles g lost left t tallies
+    plain-settles = record { settled = λ z. subst (λ (ss : List Store). Settled g (updates ss w) tallies) (p .nothing e z) (p .settled z) }
 
     module _ {s₁ : List ℕ} (f : FilledFrom (g .nodes) (g .nodes) u s s₁) where
       pub plain-ready : Ready g lost left t s₁
       plain-ready = record {
-        long = p .long;
+        long = p .numbering .long;
         room = omega (arith, p .room, f .size);
-        counts = record { known = λ z. record { at = λ n l a. f .same n l ∙ p .plainly e z .agrees .at n l a } };
+        counts = record { known = λ z. record { at = λ n l a. f .same n l ∙ p .agrees e z .at n l a } };
       }
 
       pub plain-pairs : {left′ : ℕ} {t′ s′ : List ℕ} → Turned g lost (partnersStores g) left t t′ s₁ s′ left′ → Pairs g lost left t t′ s s′ left′
@@ -112,23 +77,27 @@ module _ (g : Geometry) (lost : Lost) {left : ℕ} {plain : Bool} {t s tallies u
         left-between = left;
         numbered = elim (ℕ-discrete left 0) [
           | yes z ↦ rw z (stored-any (numberStores g w) (stored-none g 0 t))
-          | no z ↦ rw (p .plainly e z .nothing) (stored-none g left t)
+          | no z ↦ rw (p .nothing e z) (stored-none g left t)
         ];
         partnered = record { stores = r .stores; counts = r .counts; rest = r .rest ∙ f .rest; size = r .size ∙ f .size };
       }
 
-  -- ---- by counts of their own
+  -- ---- surplus copies
 
   module _ {left₁ : ℕ} {t₁ : List ℕ} (a : Stored g left (numberStores g w) t t₁ left₁) where
     numbered-view : (left₁ ≡ 0 → ⊥) → survivors lost (view g t₁) ≡ updates (numberStores g w) w
     numbered-view z =
-        ap (survivors lost) (view-left (p .long) (entered-within (entered-number g w)) z a) ∙ survivors-entered lost (view g t) (entered-number g w)
+        ap (survivors lost) (view-left (p .numbering .long) (entered-within (entered-number g w)) z a) ∙ survivors-entered lost (view g t) (entered-number g w)
 
-    pub surplus-settles : Settles g lost left₁ t₁
-    surplus-settles = record { settled = λ z. subst (Settled g) (sym (numbered-view z)) (p .settled (λ q. z (omega (arith, a .rest)))) }
+    pub surplus-settles : Settles g lost left₁ t₁ tallies
+    surplus-settles = record { settled = λ z. subst (λ (x : View). Settled g x tallies) (sym (numbered-view z)) (p .settled (λ q. z (omega (arith, a .rest)))) }
 
-    pub surplus-pairs : {left′ : ℕ} {t′ s′ : List ℕ} → Turned g lost (partnersStores g) left₁ t₁ t′ s s′ left′ → Pairs g lost left t t′ s s′ left′
-    surplus-pairs r = record { between = t₁; left-between = left₁; numbered = a; partnered = r }
+    module _ {s₁ : List ℕ} (f : Filled g (survivors lost (view g t₁)) (g .nodes) s s₁) where
+      pub surplus-ready : Ready g lost left₁ t₁ s₁
+      surplus-ready = filled-ready g lost f (omega (arith, p .numbering .long, a .size)) (p .room)
+
+      pub surplus-pairs : {left′ : ℕ} {t′ s′ : List ℕ} → Turned g lost (partnersStores g) left₁ t₁ t′ s₁ s′ left′ → Pairs g lost left t t′ s s′ left′
+      surplus-pairs r = record { between = t₁; left-between = left₁; numbered = a; partnered = filled-then g lost f r }
 
 -- ---- after the rolling
 
@@ -146,32 +115,48 @@ module _ (g : Geometry) {forward simple : Bool} (w : View) {tallies u : List ℕ
   abbrev rolled : View
   rolled = updates (entriesTo g w (rollChange forward)) w
 
-  rolled-settled : Settled g (updates (numberStores g rolled) rolled)
+  rolled-tallies : Tallied g rolled tallies
+  rolled-tallies = rolled-tallied g forward w (any-ready g w (r .formed) (r .fit) .forms) tallies (r .tally)
+
+  rolled-nothing-kept : Unkept g rolled
+  rolled-nothing-kept = rolled-unkept g forward w (any-ready g w (r .formed) (r .fit) .forms)
+
+  rolled-settled : Settled g (updates (numberStores g rolled) rolled) tallies
   unfolding rollStores
   rolled-settled b h =
       let ready = any-ready g w (r .formed) (r .fit) in
       let q = via-end (roll-via g (found g w) (largestNumber g w) w ready) .1 in
       let q′ = rw (← r .way) at q in
-      numbered-settled g (updates (numberStores g rolled) rolled) b small (via-end (number-via g (found g w) w rolled q′) .1 b h)
+      let o = via-end (number-via g (found g w) w rolled q′) .1 b h .1 in
+      let e = holders-told g rolled b small (rolled-tallies b h) in
+      record {
+        skip = λ m. o .many (omega (arith, e, m));
+        single = λ m. o .single (omega (arith, e, m));
+      }
 
-  rolled-plainly : simple ≡ true → Plainly g rolled tallies u
-  rolled-plainly e =
-      let forms = any-ready g w (r .formed) (r .fit) .forms in
-      let t = rolled-tallied g forward w forms (r .tally) (r .tallies-room) in
-      record { nothing = plain-numbers g rolled small t (sym (r .plain-told) ∙ e); tallied = t; agrees = rolled-agrees g forward w forms (r .held) }
+  rolled-nothing : simple ≡ true → numberStores g rolled ≡ []
+  rolled-nothing e = plain-numbers g rolled tallies small rolled-tallies rolled-nothing-kept (sym (r .plain-told) ∙ e)
+
+  rolled-frames : AgreesTo g rolled u (g .nodes)
+  rolled-frames = rolled-agrees g forward w (any-ready g w (r .formed) (r .fit) .forms) (r .held)
 
 pub rolled-pairable :
     (g : Geometry) (lost : Lost) {forward simple : Bool} {left left₁ : ℕ} {t t₁ s tallies u : List ℕ} → wordsOf g ≤ length t → g .nodes ≤ length s
-    → g .items ≤ 256 → g .nodes ≤ length u → g .nodes < 256 → Restorable g forward simple (survivors lost (view g t)) tallies u
+    → g .nodes ≤ length u → g .nodes < 256 → Restorable g forward simple (survivors lost (view g t)) tallies u
     → Stored g left (entriesTo g (survivors lost (view g t)) (rollChange forward)) t t₁ left₁ → Pairable g lost left₁ simple t₁ s tallies u
 unfolding rollStores
-rolled-pairable g lost {forward} {simple} {left₁ = left₁} {t} {t₁} {tallies = tallies} {u} long room items used small r a = record {
-  long = omega (arith, a .size);
+rolled-pairable g lost {forward} {simple} {left₁ = left₁} {t} {t₁} {tallies = tallies} {u} long room used small r a = record {
   room = room;
-  items = items;
   used-room = used;
+  numbering = record {
+    long = omega (arith, a .size);
+    room = r .tallies-room;
+    tallied = λ z. rw (viewed z) (rolled-tallies g (survivors lost (view g t)) small r);
+    unkept = λ z. rw (viewed z) (rolled-nothing-kept g (survivors lost (view g t)) small r);
+  };
   settled = λ z. rw (viewed z) (rolled-settled g (survivors lost (view g t)) small r);
-  plainly = λ e z. rw (viewed z) (rolled-plainly g (survivors lost (view g t)) small r e);
+  nothing = λ e z. rw (viewed z) (rolled-nothing g (survivors lost (view g t)) small r e);
+  agrees = λ e z. rw (viewed z) (rolled-frames g (survivors lost (view g t)) small r);
 }
   where
     entered : All (Entered g) (entriesTo g (survivors lost (view g t)) (rollChange forward))

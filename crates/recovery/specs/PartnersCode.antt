@@ -31,7 +31,6 @@ use Rattle.recovery.specs.SurvivorsCode.{survivor-entry}
 use Rattle.recovery.specs.Rolling.{sharedCK}
 use Rattle.recovery.specs.Partners.{single, holderOf, takes, takesAfter, partnerOf, partnerChanges, partnerFrom, partnerStores, staged, partnersStores}
 use Rattle.recovery.specs.Followed.{stored-any, view-left, Entered, entered-changes, entered-within, survivors-entered, stage-follows}
-use Rattle.recovery.specs.RowsSound.{RowTo, row-used}
 use Rattle.recovery.specs.PartnersCounts.{AgreesTo, Counts, usedWith, agrees-start, agrees-turn, partner-agrees}
 
 -- ---- definitions
@@ -50,11 +49,6 @@ partnerBy g w s b n = nodeAfter g n (first (takesByAfter g w s b n) (g .nodes - 
 -- what a survivor uses
 pub record UsedBy (g : Geometry) (w : View) (n r : ℕ) : Type 0 where
   pub is : live w n ≡ true → r ≡ used g w n 0
-
--- and of the list only its length
-pub record UsedTold (g : Geometry) (w : View) (n : ℕ) (l l′ : List ℕ) (r : ℕ) : Type 0 where
-  pub used : UsedBy g w n r
-  pub size : length l′ ≡ length l
 
 -- the scratch is filled for the nodes below k; its words from N on are as they were
 pub record Filled (g : Geometry) (w : View) (k : ℕ) (s s′ : List ℕ) : Type 0 where
@@ -382,14 +376,11 @@ unfolding used framesAt
 used-same g Nobody v n = refl
 used-same g (Node m) v n = refl
 
-module _ (g : Geometry) (lost : Lost) (v : View) (n : ℕ) {mark : ℕ} (h : mark ≡ survivors lost v .mark n) where
-  pub used-dead : mark ≡ 0 → {l : List ℕ} → UsedTold g (survivors lost v) n l l 0
-  used-dead e = record { used = record { is = λ q. absurd (no-both q (rw (← h, eq-eqb mark 0 e) refl)) }; size = refl }
+pub used-dead : (g : Geometry) (lost : Lost) (v : View) (n : ℕ) {mark : ℕ} → mark ≡ survivors lost v .mark n → mark ≡ 0 → UsedBy g (survivors lost v) n 0
+used-dead g lost v n {mark} h e = record { is = λ q. absurd (no-both q (rw (← h, eq-eqb mark 0 e) refl)) }
 
-pub used-live :
-    (g : Geometry) (lost : Lost) (v : View) (n : ℕ) {forms : Bool} {r : ℕ} {l l′ : List ℕ} → RowTo v n (g .items) forms r → length l′ ≡ length l
-    → UsedTold g (survivors lost v) n l l′ r
-used-live g lost v n e z = record { used = record { is = λ q. row-used g v n e ∙ used-same g lost v n }; size = z }
+pub used-live : (g : Geometry) (lost : Lost) (v : View) (n : ℕ) {r : ℕ} → r ≡ used g v n 0 → UsedBy g (survivors lost v) n r
+used-live g lost v n e = record { is = λ q. e ∙ used-same g lost v n }
 
 module _ (g : Geometry) (w : View) {s : List ℕ} where
   pub filled-start : Filled g w 0 s s

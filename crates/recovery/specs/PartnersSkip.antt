@@ -1,22 +1,21 @@
 -- An item's turn in the partner stage finds its copies as they were at the stage's start; one with a holder of each number has no single copy.
-use Prim.Native.Nat.{ℕ, zero, suc, _+_, _-_, _*_, _/_, _%_, _≤_, _<_}
+use Prim.Native.Nat.{ℕ, zero, suc, _+_, _-_, _*_, _≤_, _<_}
 use mathlib.Core.Path.{_≡_, refl, sym, ap, _∙_}
 use mathlib.Core.Logic.{_≢_}
-use mathlib.Core.Bool.{Bool, true, false, not, cond, _&&_}
+use mathlib.Core.Bool.{Bool, true, false, cond}
 use mathlib.Core.List.{List, [], _∷_, map}
 use native.Mathlib.Omega.{arith}
-use native.Mathlib.Decide.{ℕ-discrete}
 use lib.Dec.{eqb}
 use lib.ListN.{getD}
-use borrow.Author.Tests.{lt-ltb, eqb-true, eq-eqb, ne-eqb, not-true}
-use Rattle.counting.specs.Tests.{and-both, by-cases, both, no-both}
-use Rattle.counting.specs.Counting.{count, count-ext, one, sum}
+use borrow.Author.Tests.{lt-ltb, eqb-true}
+use Rattle.counting.specs.Tests.{and-both}
+use Rattle.counting.specs.Counting.{count, count-ext, one}
 use Rattle.counting.specs.First.{first, first-le}
 use Rattle.table.specs.declared.geometry.Geometry.{Geometry}
 use Rattle.table.specs.Geometry.{entryAt, markAt, entries-apart}
 use Rattle.table.specs.Stores.{Store, Change, stateTo, valueTo, keptTo, sizeStore, markStore, entryStore, Stored, placeOf, partOf, after-off, All, none, more, all-then}
-use Rattle.table.specs.View.{View, view, live, current, kept, updates, mark-read, entry-read}
-use Rattle.entries.specs.Tally.{copy, has}
+use Rattle.table.specs.View.{View, view, updates, mark-read, entry-read}
+use Rattle.entries.specs.Tally.{copy}
 use Rattle.homes.specs.HomeCode.{after-below}
 use Rattle.recovery.specs.declared.lost.Lost.{Lost}
 use Rattle.recovery.specs.Survivors.{survivors}
@@ -24,7 +23,7 @@ use Rattle.recovery.specs.SurvivorsCode.{survivor-entry}
 use Rattle.recovery.specs.RollingCode.{survivor-marks}
 use Rattle.recovery.specs.Partners.{single, holderOf, takesAfter, partnerOf, partnerChanges, partnerFrom, partnerStores, staged}
 use Rattle.recovery.specs.PartnersCode.{Ready, Turned, holder-there, item-other, items-ready}
-use Rattle.recovery.specs.Tallies.{Tallied, weightIn, shareIn, share, tally-shares, shares-le}
+use Rattle.recovery.specs.Tallies.{holdersBy}
 
 -- ---- the stores of the items before i
 
@@ -100,98 +99,48 @@ module _ (g : Geometry) (i : ℕ) {ss : List Store} {left left′ : ℕ} {t t′
   copies-stay lost b hb l = count-ext (g .nodes) _ _
       (λ n hn. rw (survivor-marks lost (view g t) (view g t′) n (mark-stays n hn), survivor-entry lost (view g t′), survivor-entry lost (view g t), entry-stays n b hn hb l) refl)
 
--- ---- a holder of each number
-
-share-has : (w : View) (b code n : ℕ) → shareIn w b code n ≤ 2 * one (has w b code n)
-unfolding shareIn share
-share-has w b code n =
-    by-cases (live w n)
-    (λ e. by-cases (eqb (current (w .entry n b)) code)
-    (λ f. by-cases (eqb (kept (w .entry n b)) 0) (λ k. rw (e, f, k) (omega arith)) (λ k. rw (e, f, k) (omega arith)))
-    (λ f. rw (e, f) (omega arith)))
-    (λ e. rw e (omega arith))
-
-has-copy : (w : View) (b n : ℕ) → one (has w b 4 n) + one (has w b 5 n) ≤ one (copy w b n)
-has-copy w b n =
-    by-cases (live w n)
-    (λ e. elim (ℕ-discrete (current (w .entry n b)) 4) [
-      | yes c ↦ rw (e, c) (omega arith)
-      | no c ↦ elim (ℕ-discrete (current (w .entry n b)) 5) [
-        | yes d ↦ rw (e, d) (omega arith)
-        | no d ↦ rw (e, ne-eqb _ 4 c, ne-eqb _ 5 d) (omega arith)
-      ]
-    ])
-    (λ e. rw e (omega arith))
-
-module _ (w : View) (b : ℕ) where
-  shares-has : (code n : ℕ) → sum (shareIn w b code) n ≤ 2 * count (has w b code) n
-  unfolding sum count
-  shares-has code zero = omega arith
-  shares-has code (suc n) = omega (arith, shares-has code n, share-has w b code n)
-
-  holders-copies : (n : ℕ) → count (has w b 4) n + count (has w b 5) n ≤ count (copy w b) n
-  unfolding count
-  holders-copies zero = omega arith
-  holders-copies (suc n) = omega (arith, holders-copies n, has-copy w b n)
-
--- by its tally
-abbrev pub skips : ℕ → Bool
-skips tally = not (eqb (tally % 1024) 0) && not (eqb (tally / 1024) 0)
-
-not-zero : (x : ℕ) → not (eqb x 0) ≡ true → 1 ≤ x
-not-zero x h = elim (ℕ-discrete x 0) [ yes e ↦ absurd (no-both (eq-eqb x 0 e) (not-true _ h)) | no d ↦ omega arith ]
-
-not-single : (g : Geometry) (w : View) (b : ℕ) {tally : ℕ} → g .nodes < 256 → tally ≡ sum (weightIn w b) (g .nodes) → skips tally ≡ true → count (copy w b) (g .nodes) ≡ 1 → ⊥
-not-single g w b {tally} small e h one-copy =
-    let t = both (not (eqb (tally % 1024) 0)) h in
-    let x = not-zero (tally % 1024) (t .0) in
-    let y = not-zero (tally / 1024) (t .1) in
-    omega (arith, tally-shares w b (g .nodes), shares-le w b 4 (g .nodes), shares-has w b 4 (g .nodes), shares-has w b 5 (g .nodes), holders-copies w b (g .nodes))
+-- ---- an item's turn
 
 -- while anything is left of the limit: an item has one copy
 pub record Single (g : Geometry) (lost : Lost) (left : ℕ) (t : List ℕ) (b : ℕ) : Type 0 where
   pub one : (left ≡ 0 → ⊥) → count (copy (survivors lost (view g t)) b) (g .nodes) ≡ 1
 
--- an item without a holder of each number has a single copy: so it is once numbering is done
-abbrev pub Settled : Geometry → View → Type 0
-Settled g w = (b : ℕ) → b < g .items → skips (sum (weightIn w b) (g .nodes)) ≡ false → count (copy w b) (g .nodes) ≡ 1
+-- how the items stand by their tallies: with two holders and more an item has not one copy, else it has one
+pub record Stands (g : Geometry) (w : View) (b tally : ℕ) : Type 0 where
+  pub skip : 1 < holdersBy tally → count (copy w b) (g .nodes) ≡ 1 → ⊥
+  pub single : holdersBy tally ≤ 1 → count (copy w b) (g .nodes) ≡ 1
 
-pub record Settles (g : Geometry) (lost : Lost) (left : ℕ) (t : List ℕ) : Type 0 where
-  pub settled : (left ≡ 0 → ⊥) → Settled g (survivors lost (view g t))
+abbrev pub Settled : Geometry → View → List ℕ → Type 0
+Settled g w s = (b : ℕ) → b < g .items → Stands g w b (getD s b 0)
 
--- what an item's turn needs: by its tally it has no single copy, or has one
+pub record Settles (g : Geometry) (lost : Lost) (left : ℕ) (t s : List ℕ) : Type 0 where
+  pub settled : (left ≡ 0 → ⊥) → Settled g (survivors lost (view g t)) s
+
+-- what an item's turn needs
 pub record Passable (g : Geometry) (lost : Lost) (left : ℕ) (t s : List ℕ) (b tally : ℕ) : Type 0 where
   pub ready : Ready g lost left t s
   pub there : b < g .items
-  pub skip : (left ≡ 0 → ⊥) → skips tally ≡ true → count (copy (survivors lost (view g t)) b) (g .nodes) ≡ 1 → ⊥
-  pub single : skips tally ≡ false → Single g lost left t b
-
--- what all of them need
-pub record Tallying (g : Geometry) (lost : Lost) (left : ℕ) (t s : List ℕ) : Type 0 where
-  pub tallied : (left ≡ 0 → ⊥) → Tallied g (survivors lost (view g t)) (g .nodes) s
-  pub settled : (left ≡ 0 → ⊥) → Settled g (survivors lost (view g t))
+  pub stands : (left ≡ 0 → ⊥) → Stands g (survivors lost (view g t)) b tally
 
 pub turn-skipped :
-    (g : Geometry) (lost : Lost) {left b tally : ℕ} {t s : List ℕ} → Passable g lost left t s b tally → skips tally ≡ true
+    (g : Geometry) (lost : Lost) {left b tally : ℕ} {t s : List ℕ} → Passable g lost left t s b tally → 1 < holdersBy tally
     → Turned g lost (partnerStores g b) left t t s s left
-turn-skipped g lost {left} {b} {tally} {t} {s} p h = item-other g lost b (λ z. p .skip z h) (p .ready .counts)
+turn-skipped g lost {left} {b} {tally} {t} {s} p h = item-other g lost b (λ z. p .stands z .skip h) (p .ready .counts)
+
+pub turn-single : (g : Geometry) (lost : Lost) {left b tally : ℕ} {t s : List ℕ} → Passable g lost left t s b tally → holdersBy tally ≤ 1 → Single g lost left t b
+turn-single g lost p h = record { one = λ z. p .stands z .single h }
 
 pub turn-ready :
-    (g : Geometry) (lost : Lost) (i : ℕ) {left left₁ tally : ℕ} {t t₁ s s₁ tallies : List ℕ} → Ready g lost left t s → i < g .items → g .nodes < 256
-    → Tallying g lost left t tallies → tally ≡ getD tallies i 0
+    (g : Geometry) (lost : Lost) (i : ℕ) {left left₁ tally : ℕ} {t t₁ s s₁ tallies : List ℕ} → Ready g lost left t s → i < g .items
+    → Settles g lost left t tallies → tally ≡ getD tallies i 0
     → Turned g lost (staged (partnerStores g) i) left t t₁ s s₁ left₁ → Passable g lost left₁ t₁ s₁ i tally
-turn-ready g lost i {left} {left₁} {tally} {t} {t₁} k h small u e r = record {
+turn-ready g lost i {left} {left₁} {tally} {t} {t₁} k h u e r = record {
   ready = items-ready g lost i r k;
   there = h;
-  skip = λ z p q. not-single g (survivors lost (view g t)) i small (told z) p (sym stays ∙ q);
-  single = λ p. record { one = λ z. stays ∙ u .settled (more z) i h (ap skips (sym (told z)) ∙ p) };
+  stands = λ z.
+      let o = u .settled (λ q. z (omega (arith, r .stores .rest))) i h in
+      record { skip = λ p q. o .skip (rw e at p) (sym stays ∙ q); single = λ p. stays ∙ o .single (rw e at p) };
 }
   where
-    more : (left₁ ≡ 0 → ⊥) → left ≡ 0 → ⊥
-    more z q = z (omega (arith, r .stores .rest))
-
-    told : (left₁ ≡ 0 → ⊥) → tally ≡ sum (weightIn (survivors lost (view g t)) i) (g .nodes)
-    told z = e ∙ u .tallied (more z) .at i h
-
     stays : count (copy (survivors lost (view g t₁)) i) (g .nodes) ≡ count (copy (survivors lost (view g t)) i) (g .nodes)
     stays = copies-stay g i (before-staged g i i (survivors lost (view g t)) (omega arith) (omega arith)) (r .stores) lost i h (omega arith)

@@ -53,7 +53,6 @@ pub record Carriable (g : Geometry) (lost : Lost) (t s : List ℕ) : Type 0 wher
   pub long : wordsOf g ≤ length t
   pub room : scratchWords g ≤ length s
   pub inside : lostOutside g lost ≡ false
-  pub items : g .items ≤ 256
 
 -- a list, tallies and first values that are long enough, the latter two zero
 pub record Roomy (g : Geometry) (l s f : List ℕ) : Type 0 where
@@ -73,7 +72,6 @@ pub record StoresReady (g : Geometry) (lost : Lost) (forward plain : Bool) (t s 
 pub record RestoreReady (g : Geometry) (lost : Lost) (forward plain : Bool) (t s l tallies u : List ℕ) : Type 0 where
   pub long : wordsOf g ≤ length t
   pub room : g .nodes ≤ length s
-  pub items : g .items ≤ 256
   pub list-room : g .items ≤ length l
   pub used-room : g .nodes ≤ length u
   pub known : Restorable g forward plain (survivors lost (view g t)) tallies u
@@ -157,7 +155,7 @@ module _ (t : List ℕ) (lost : Lost) (scratch : ℕ) (g : Geometry) {a : Admiss
     recover-ready z n room way c =
         let f = admission-admits g (survivors lost (view g t)) lost scratch (sym k ∙ q) in
         record {
-          carriable = record { long = z .words; room = omega (arith, f .enough); inside = f .inside; items = z .items };
+          carriable = record { long = z .words; room = omega (arith, f .enough); inside = f .inside };
           list-room = room;
           used-room = c .used-room;
           known = record {
@@ -188,7 +186,6 @@ restore-ready g lost left r a =
     record {
       long = omega (arith, c .long, a .size);
       room = omega (arith, c .room);
-      items = c .items;
       list-room = r .list-room;
       used-room = r .used-room;
       known = rw (survivors-same lost left (c .long) (lost-stores-within g lost (c .inside)) a) (r .known);
@@ -197,7 +194,7 @@ restore-ready g lost left r a =
 module _ (g : Geometry) (lost : Lost) {forward plain : Bool} {left left₁ : ℕ} {t t₁ s l l′ tallies u : List ℕ} (r : RestoreReady g lost forward plain t s l tallies u)
     (a : Rolled g lost forward left t t₁ l l′ left₁) where
   pub restore-pairable : g .nodes < 256 → Pairable g lost left₁ plain t₁ s tallies u
-  restore-pairable small = rolled-pairable g lost (r .long) (r .room) (r .items) (r .used-room) small (r .known) (a .stores)
+  restore-pairable small = rolled-pairable g lost (r .long) (r .room) (r .used-room) small (r .known) (a .stores)
 
   pub restored :
       {left₂ left₃ : ℕ} {t₂ t₃ s′ : List ℕ} → Pairs g lost left₁ t₁ t₂ s s′ left₂ → Stored g left₂ (closingStores g (survivors lost (view g t₂))) t₂ t₃ left₃

@@ -63,7 +63,7 @@ module _ (g : Geometry) (saved : ℕ → ℕ) (number : ℕ) (w : View) (r : Rea
       (λ x _ p. via-followed (numberStores g) (followed (partnersStores g) (closingStores g))
       (via-loosen (via-both (number-via g saved w x p)) going-of)
       (λ y _ q. via-followed (partnersStores g) (closingStores g)
-      (via-loosen (via-both (partners-via g saved w y room (q .0) (q .1))) going-of)
+      (via-loosen (via-both (partners-via g saved w y room (q .0) (λ b h. q .1 b h .0))) going-of)
       (λ z _ k. closing-via g saved number w z r (k .0) (k .1))))
 
 -- ---- the lost mark before them

@@ -208,28 +208,6 @@ module _ (h : ℕ → ℕ → ℕ) (i : ℕ) {s s′ : List ℕ} (r : Rowed h i 
     size = length-set s′ i y ∙ r .size;
   }
 
--- along a list
-module _ (f : ℕ → ℕ) (h : ℕ → ℕ → ℕ) (blank : (j x : ℕ) → f j ≡ 0 → h j x ≡ x) {m : ℕ} {l : List ℕ} {count : ℕ} (o : Listed f m l count) {s s′ : List ℕ} (k : ℕ)
-    (r : Rowed h (reached l k) s s′) where
-  -- before the turn
-  pub rowed-here : k < count → Rowed h (getD l k 0) s s′
-  rowed-here q = listed-turn (λ i. Rowed h i s s′) f (λ j e p. rowed-blank h j p (blank j (getD s j 0) e)) o k q r
-
-  pub rowed-same : k < count → getD s′ (getD l k 0) 0 ≡ getD s (getD l k 0) 0
-  rowed-same q = rowed-here q .kept (getD l k 0) (omega arith)
-
-  pub rowed-room : k < count → m ≤ length s → getD l k 0 < length s′
-  rowed-room q room = omega (arith, o .below k q, r .size)
-
-  pub rowed-turn : k < count → m ≤ length s → {y : ℕ} → y ≡ h (getD l k 0) (getD s′ (getD l k 0) 0) → Rowed h (reached l (k + 1)) s (set s′ (getD l k 0) y)
-  rowed-turn q room e = rw (reached-next l k) (rowed-set h (getD l k 0) (rowed-here q) (omega (arith, o .below k q)) e)
-
-  pub rowed-end : k ≤ count → count ≤ k → Rowed h m s s′
-  rowed-end p q = listed-end (λ i. Rowed h i s s′) f (λ j e p. rowed-blank h j p (blank j (getD s j 0) e)) o k p q r
-
-pub rowed-start : (h : ℕ → ℕ → ℕ) (l s : List ℕ) → Rowed h (reached l 0) s s
-rowed-start h l s = rw (reached-start l) (rowed-none h s)
-
 -- ---- the row of a node
 
 pub listed-ext : {f h : ℕ → ℕ} {m : ℕ} {l l′ : List ℕ} {r : ℕ} → ((j : ℕ) → j < m → f j ≡ h j) → Listing f m l l′ r → Listing h m l l′ r

@@ -1,33 +1,22 @@
 -- The word forms and the frames of a survivor, by a pass over its occupied entries.
 use Prim.Native.Nat.{ℕ, _+_, _*_, _≤_, _<_}
 use mathlib.Core.Path.{_≡_, refl, sym, ap, ap₂, _∙_}
-use mathlib.Core.Bool.{Bool, true, not, _&&_}
+use mathlib.Core.Bool.{Bool, true, _&&_}
 use mathlib.Core.List.{List}
 use native.Mathlib.Omega.{arith}
-use mir.Val.{boolByte}
-use lib.Dec.{eqb, leb}
+use lib.Dec.{leb}
 use lib.ListN.{getD}
-use Rattle.counting.specs.Tests.{by-cases, and-true}
+use Rattle.counting.specs.Tests.{and-true}
 use Rattle.counting.specs.Counting.{every, every-none, every-next, sum, sum-none, sum-next, sum-ext}
 use Rattle.table.specs.declared.geometry.Geometry.{Geometry}
-use Rattle.table.specs.Words.{stateForm, currentOf, keptOf}
+use Rattle.table.specs.Words.{stateForm}
 use Rattle.table.specs.View.{View}
-use Rattle.entries.specs.Frames.{setFrames, frameOf, framesIn, used, framesFit, frames-here}
+use Rattle.entries.specs.Frames.{setFrames, framesIn, used, framesFit, frames-here}
 use Rattle.entries.specs.Sound.{statesForm, nodeSound}
 use Rattle.recovery.specs.declared.lost.Lost.{Lost}
 use Rattle.recovery.specs.Survivors.{survivors}
 use Rattle.recovery.specs.SurvivorsCode.{survivor-live}
 use Rattle.recovery.specs.Rows.{stateIn, Listed, reached, reached-start, reached-next, listed-turn, listed-end}
-
--- ---- the frames of a state word
-
-frame-byte : (c : ℕ) → boolByte (not (eqb c 0)) ≡ frameOf c
-frame-byte c = by-cases (eqb c 0) (λ e. rw e refl) (λ e. rw e refl)
-
-pub frames-bytes :
-    (w : ℕ) {c k : ℕ} → c ≡ currentOf w → k ≡ keptOf w → boolByte (not (eqb c 0)) + boolByte (not (eqb k 0)) ≡ framesIn w
-unfolding framesIn
-frames-bytes w {c} {k} e f = ap₂ (λ x y. x + y) (frame-byte c ∙ ap frameOf e) (frame-byte k ∙ ap frameOf f)
 
 -- ---- the pass
 

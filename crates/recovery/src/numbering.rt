@@ -10,12 +10,9 @@ ghost use Rattle.table.specs.View.{view};
 ghost use Rattle.table.specs.Pass.{pass};
 ghost use Rattle.recovery.specs.Survivors.{survivors};
 ghost use Rattle.recovery.specs.Numbering.{numberAfter, numberChange, numberStores};
-ghost use Rattle.recovery.specs.NumberingCode.{noHolders, ofNumber, Met, HoldersTo, survivorCode, numberBy, Numberable};
-ghost use Rattle.recovery.specs.Rows.{Rowed};
-ghost use Rattle.recovery.specs.Tallies.{Weighed, Weighable, weighing, Tallied, TallyReady, TallyDone};
+ghost use Rattle.recovery.specs.NumberingCode.{noHolders, ofNumber, Met, HoldersTo, survivorCode, numberBy, Numberable, Numbering};
 use crate::lost::Lost;
 use crate::rolling;
-use crate::rows;
 use crate::survivors;
 use table::changes;
 use table::geometry::Geometry;
@@ -153,79 +150,9 @@ fn number_item(table: &mut [u64], left: u64, g: Geometry, lost: Lost, item: u16)
     left
 }
 
-// The weight of a state word: for a Shared-CK1 1, or 2 with something kept; for a Shared-CK2 1024 times as much. A word's six top bits, the current
-// and the kept code, have a digit.
-fn weight(state: u64) -> u64
-    ensures { λ r. ⌜ Weighed state r ⌝ }
-{
-    let digits = b"0000000000000000122248880000000000000000000000000000000000000000";
-    let top = (state / 0x400_0000_0000_0000) as usize;
-    let digit = digits[top];
-    let first = (digit % 4) as u64;
-    let second = (digit / 4 % 4) as u64;
-    first + 1024 * second
-}
-
-// The weights of a node's entries, added to the tallies of their items.
-fn tally_listed(
-    table: &[u64],
-    g: Geometry,
-    node: u8,
-    list: &[u16],
-    count: usize,
-    tallies: &mut [u64],
-)
-    requires { ⌜ Weighable g (view g (now table)) node (now list) count (now tallies) ⌝ }
-    ensures { λ _. ⌜ Rowed (weighing (view g (now (table .entry))) node) (g .items) (now (tallies .entry)) (now (tallies .exit)) ⌝ }
-{
-    let mut k: usize = 0;
-    while k < count {
-        let item = list[k];
-        let at = item as usize;
-        let state = stores::state_at(table, g, node, item);
-        let tally = tallies[at] + weight(state);
-        tallies[at] = tally;
-        k += 1;
-    }
-}
-
-// The turn of one node: no survivor is passed over.
-fn tally_node(
-    table: &[u64],
-    g: Geometry,
-    lost: Lost,
-    node: u8,
-    list: &mut [u16],
-    tallies: &mut [u64],
-)
-    requires { ⌜ TallyReady g (survivors lost (view g (now table))) node (now table) (now list) (now tallies) ⌝ }
-    ensures { λ _. ⌜ TallyDone g (survivors lost (view g (now (table .entry)))) node (now (list .entry)) (now (list .exit)) (now (tallies .exit)) ⌝ }
-{
-    let mark = survivors::survivor_mark(table, g, lost, node);
-    if mark == 0 {
-        return;
-    }
-    let count = rows::occupied(table, g, node, list);
-    tally_listed(table, g, node, list, count, tallies);
-}
-
-// The tallies of all items, from zeros.
-pub(crate) fn tally(table: &[u64], g: Geometry, lost: Lost, tallies: &mut [u64])
-    requires { ⌜ (wordsOf g ≤ length (now table)) × ((g .items ≤ 256) × Tallied g (survivors lost (view g (now table))) 0 (now tallies)) ⌝ }
-    ensures { λ _. ⌜ Tallied g (survivors lost (view g (now (table .entry)))) (g .nodes) (now (tallies .exit)) ⌝ }
-{
-    let nodes = g.nodes;
-    let mut list: [u16; 256] = [0; 256];
-    let mut node: u8 = 0;
-    while node < nodes {
-        tally_node(table, g, lost, node, &mut list, tallies);
-        node += 1;
-    }
-}
-
 // The turn of one item: by its tally there may be nothing to do.
 fn number_turn(table: &mut [u64], left: u64, g: Geometry, lost: Lost, item: u16, tally: u64) -> u64
-    requires { ⌜ Numberable g lost (now table) item tally ⌝ }
+    requires { ⌜ Numberable g lost left (now table) item tally ⌝ }
     ensures { λ r. ⌜ Stored g left (pass (λ d. d) (λ d. item) (λ d. numberChange g (survivors lost (view g (now (table .entry)))) d item) (g .nodes)) (now (table .entry)) (now (table .exit)) r ⌝ }
 {
     if (tally % 1024 < 2) & (tally / 1024 < 2) {
@@ -234,14 +161,12 @@ fn number_turn(table: &mut [u64], left: u64, g: Geometry, lost: Lost, item: u16,
     number_item(table, left, g, lost, item)
 }
 
-// All items, ascending, then node.
-pub(crate) fn number(table: &mut [u64], left: u64, g: Geometry, lost: Lost) -> u64
-    requires { ⌜ (wordsOf g ≤ length (now table)) × (g .items ≤ 256) ⌝ }
+// All items, ascending, then node, by their tallies.
+pub(crate) fn number(table: &mut [u64], left: u64, g: Geometry, lost: Lost, tallies: &[u64]) -> u64
+    requires { ⌜ Numbering g lost left (now table) (now tallies) ⌝ }
     ensures { λ r. ⌜ Stored g left (numberStores g (survivors lost (view g (now (table .entry))))) (now (table .entry)) (now (table .exit)) r ⌝ }
 {
     let items = g.items;
-    let mut tallies: [u64; 256] = [0; 256];
-    tally(table, g, lost, &mut tallies);
     let mut left = left;
     let mut item: u16 = 0;
     while item < items {

@@ -3,7 +3,6 @@
 ghost use mathlib.Core.Path.{_≡_};
 ghost use Prim.Native.Nat.{_≤_, _<_, _-_};
 ghost use lib.ListN.{length};
-ghost use Rattle.table.specs.Geometry.{wordsOf};
 ghost use Rattle.table.specs.Stores.{StoredIn};
 ghost use Rattle.table.specs.View.{view};
 ghost use Rattle.table.specs.Words.{currentOf};
@@ -14,11 +13,9 @@ ghost use Rattle.recovery.specs.Survivors.{survivors};
 ghost use Rattle.recovery.specs.Rolling.{sharedCK};
 ghost use Rattle.recovery.specs.Partners.{holderOf, partnerChanges, partnerFrom, partnerStores, partnersStores};
 ghost use Rattle.recovery.specs.PartnersCounts.{usedWith};
-ghost use Rattle.recovery.specs.PartnersCode.{takesBy, Found, UsedTold, Filled, FilledFrom, Ready, Turned};
-ghost use Rattle.recovery.specs.PartnersSkip.{Single, Passable, Tallying, Settles};
+ghost use Rattle.recovery.specs.PartnersCode.{takesBy, Found, UsedBy, Filled, FilledFrom, Ready, Turned};
+ghost use Rattle.recovery.specs.PartnersSkip.{Single, Passable, Settles};
 use crate::lost::Lost;
-use crate::numbering;
-use crate::rows;
 use crate::survivors;
 use entries::frames;
 use table::changes;
@@ -27,29 +24,25 @@ use table::stores;
 use table::words;
 
 // The frames in use of a survivor; of any other node nothing is read.
-fn used_by(table: &[u64], g: Geometry, lost: Lost, node: u8, list: &mut [u16]) -> u64
-    requires { ⌜ (node < g .nodes) × ((wordsOf g ≤ length (now table)) × (g .items ≤ length (now list))) ⌝ }
-    ensures { λ r. ⌜ UsedTold g (survivors lost (view g (now (table .entry)))) node (now (list .entry)) (now (list .exit)) r ⌝ }
+fn used_by(table: &[u64], g: Geometry, lost: Lost, node: u8) -> u64
+    ensures { λ r. ⌜ UsedBy g (survivors lost (view g (now (table .entry)))) node r ⌝ }
 {
     let mark = survivors::survivor_mark(table, g, lost, node);
     if mark == 0 {
         return 0;
     }
-    let count = rows::occupied(table, g, node, list);
-    let row = survivors::row_listed(table, g, node, list, count);
-    row.frames as u64
+    frames::used_in(table, g, node, 0) as u64
 }
 
 // The frames in use of each survivor, in the scratch.
-fn fill_used(table: &[u64], g: Geometry, lost: Lost, scratch: &mut [u64])
-    requires { ⌜ (wordsOf g ≤ length (now table)) × ((g .nodes ≤ length (now scratch)) × (g .items ≤ 256)) ⌝ }
+pub(crate) fn fill_used(table: &[u64], g: Geometry, lost: Lost, scratch: &mut [u64])
+    requires { ⌜ g .nodes ≤ length (now scratch) ⌝ }
     ensures { λ _. ⌜ Filled g (survivors lost (view g (now (table .entry)))) (g .nodes) (now (scratch .entry)) (now (scratch .exit)) ⌝ }
 {
     let nodes = g.nodes;
-    let mut list: [u16; 256] = [0; 256];
     let mut node: u8 = 0;
     while node < nodes {
-        let used = used_by(table, g, lost, node, &mut list);
+        let used = used_by(table, g, lost, node);
         scratch[node as usize] = used;
         node += 1;
     }
@@ -213,7 +206,7 @@ fn partner_item(
     left
 }
 
-// An item's turn, by its tally at the start of the stage: with a holder of each number it has no single copy, else it has one.
+// An item's turn, by its tally before the numbering: with two holders and more it has a pair now, else a single copy.
 fn partner_turn(
     table: &mut [u64],
     left: u64,
@@ -226,13 +219,13 @@ fn partner_turn(
     requires { ⌜ Passable g lost left (now table) (now scratch) item tally ⌝ }
     ensures { λ r. ⌜ Turned g lost (partnerStores g item) left (now (table .entry)) (now (table .exit)) (now (scratch .entry)) (now (scratch .exit)) r ⌝ }
 {
-    if (tally % 1024 != 0) & (tally / 1024 != 0) {
+    if 1 < tally % 1024 + tally / 1024 {
         return left;
     }
     partner_item(table, left, g, lost, scratch, item)
 }
 
-// The items, ascending.
+// The partner stage: the items, ascending. Of the scratch it writes the first words, one a node.
 pub(crate) fn partner_items(
     table: &mut [u64],
     left: u64,
@@ -241,7 +234,7 @@ pub(crate) fn partner_items(
     scratch: &mut [u64],
     tallies: &[u64],
 ) -> u64
-    requires { ⌜ Ready g lost left (now table) (now scratch) × Tallying g lost left (now table) (now tallies) ⌝ }
+    requires { ⌜ Ready g lost left (now table) (now scratch) × Settles g lost left (now table) (now tallies) ⌝ }
     ensures { λ r. ⌜ Turned g lost (partnersStores g) left (now (table .entry)) (now (table .exit)) (now (scratch .entry)) (now (scratch .exit)) r ⌝ }
 {
     let items = g.items;
@@ -253,21 +246,4 @@ pub(crate) fn partner_items(
         item += 1;
     }
     left
-}
-
-// The partner stage; of the scratch it writes the first words, one a node.
-pub(crate) fn partners(
-    table: &mut [u64],
-    left: u64,
-    g: Geometry,
-    lost: Lost,
-    scratch: &mut [u64],
-) -> u64
-    requires { ⌜ (wordsOf g ≤ length (now table)) × ((g .nodes ≤ length (now scratch)) × ((g .items ≤ 256) × Settles g lost left (now table))) ⌝ }
-    ensures { λ r. ⌜ Turned g lost (partnersStores g) left (now (table .entry)) (now (table .exit)) (now (scratch .entry)) (now (scratch .exit)) r ⌝ }
-{
-    let mut tallies: [u64; 256] = [0; 256];
-    numbering::tally(table, g, lost, &mut tallies);
-    fill_used(table, g, lost, scratch);
-    partner_items(table, left, g, lost, scratch, &tallies)
 }

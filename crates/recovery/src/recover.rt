@@ -68,8 +68,8 @@ fn admit_recover(
     Admission::Admitted
 }
 
-// Numbering, then partners. Where no item has two recovery copies of one number, numbering has nothing to do, and tallies and frames are those of the
-// census.
+// Numbering, then partners, by the tallies of the census. Where no item has two recovery copies of one number, numbering has nothing to do, and the
+// frames in use are those of the census too.
 fn pair(
     table: &mut [u64],
     left: u64,
@@ -87,8 +87,9 @@ fn pair(
         partners::fill_counted(g.nodes, used, scratch);
         return partners::partner_items(table, left, g, lost, scratch, tallies);
     }
-    let left = numbering::number(table, left, g, lost);
-    partners::partners(table, left, g, lost, scratch)
+    let left = numbering::number(table, left, g, lost, tallies);
+    partners::fill_used(table, g, lost, scratch);
+    partners::partner_items(table, left, g, lost, scratch, tallies)
 }
 
 // The survivors' marks, ascending: phase 0 and their largest number.

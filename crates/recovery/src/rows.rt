@@ -1,14 +1,11 @@
 // The occupied entries of a node: most entries are Invalid with nothing kept, their state words 0, and a recovery has nothing to do at them.
-ghost use mathlib.Core.Path.{_≡_};
 ghost use Prim.Native.Nat.{_+_, _*_, _/_, _<_, _≤_};
 ghost use lib.ListN.{length};
 ghost use Rattle.table.specs.Geometry.{wordsOf};
 ghost use Rattle.table.specs.View.{view};
-ghost use Rattle.entries.specs.Frames.{framesIn};
 ghost use Rattle.entries.specs.Row.{rowState};
 ghost use Rattle.recovery.specs.Rows.{stateIn, Listing, ListedMore};
 use table::geometry::Geometry;
-use table::words;
 
 // Lists one entry more: its item stands in the list, and counts if its state word is not 0.
 fn gather_one(table: &[u64], at: usize, item: u16, list: &mut [u16], count: usize) -> usize
@@ -71,13 +68,4 @@ pub(crate) fn occupied(table: &[u64], g: Geometry, node: u8, list: &mut [u16]) -
 {
     let start = g.entry_at(node, 0);
     occupied_row(table, start, g.items, list)
-}
-
-// The frames of an entry with this state word.
-pub(crate) fn frames_of(state: u64) -> usize
-    ensures { λ r. ⌜ (r ≡ framesIn state) × (r ≤ 2) ⌝ }
-{
-    let current = words::current_of(state);
-    let kept = words::kept_of(state);
-    (current != words::INVALID) as usize + (kept != words::INVALID) as usize
 }

@@ -5,13 +5,9 @@ ghost use Rattle.counting.specs.Counting.{Counted};
 ghost use Rattle.table.specs.View.{view, live};
 ghost use Rattle.recovery.specs.Survivors.{survivors, survivorCount, lostOutside};
 ghost use Rattle.recovery.specs.Recover.{tooFewWith, tooFew};
-ghost use Rattle.recovery.specs.Rows.{stateIn, Listed};
-ghost use Rattle.recovery.specs.RowsSound.{RowTo};
 use crate::lost::Lost;
-use crate::rows;
 use table::geometry::Geometry;
 use table::stores;
-use table::words;
 
 // The mark of a node, or 0 for the lost node and for a node that is not there.
 pub fn survivor_mark(table: &[u64], g: Geometry, lost: Lost, node: u8) -> u64
@@ -81,29 +77,4 @@ pub fn too_few(table: &[u64], g: Geometry, lost: Lost) -> bool
 {
     let k = survivor_count(table, g, lost);
     too_few_with(g, k)
-}
-
-// What a pass over a node's state words tells: whether each has its form, and the frames in use.
-pub(crate) struct Row {
-    pub(crate) forms: bool,
-    pub(crate) frames: usize,
-}
-
-// The pass over those in the list, for the others are 0.
-pub(crate) fn row_listed(table: &[u64], g: Geometry, node: u8, list: &[u16], count: usize) -> Row
-    requires { ⌜ Listed (stateIn (view g (now table)) node) (g .items) (now list) count ⌝ }
-    ensures { λ r. ⌜ RowTo (view g (now (table .entry))) node (g .items) (r .forms) (r .frames) ⌝ }
-{
-    let mut forms = true;
-    let mut frames: usize = 0;
-    let mut k: usize = 0;
-    while k < count {
-        let item = list[k];
-        let state = stores::state_at(table, g, node, item);
-        let form = words::state_form(state);
-        forms = forms & form;
-        frames += rows::frames_of(state);
-        k += 1;
-    }
-    Row { forms, frames }
 }

@@ -23,7 +23,7 @@ partner-turn-requires c κs =
     let t = w .before in
     let l = t .before in
     let f = l .before .before .before .before in
-    turn-ready (f .args .g) (f .args .lost) _ (f .pre .0) (t .loop-test .taken) (search needs) (f .pre .1) (w .word .ensures) (l .loop .inv .1)
+    turn-ready (f .args .g) (f .args .lost) _ (f .pre .0) (t .loop-test .taken) (f .pre .1) (w .word .ensures) (l .loop .inv .1)
 
 loop-again : tie.Need-loop-again Inv-loop μ-loop
 loop-again c =

@@ -1,5 +1,5 @@
 -- `partner_turn` meets its contract: no single copy, or the item's turn. Assumes nothing.
-use Rattle.recovery.specs.PartnersSkip.{turn-skipped}
+use Rattle.recovery.specs.PartnersSkip.{turn-skipped, turn-single}
 use borrow.Author.Needs.{needs}
 use Rattle.recovery.proofs.partners.partner_turn.Statement.{statement}
 use Rattle.recovery.proofs.partners.partner_turn.Tie as tie
@@ -8,12 +8,13 @@ partner-item-requires : tie.Need-partner-item-requires
 partner-item-requires c κs =
     let i = c .before .before in
     let f = i .before .before .before in
-    (f .pre .ready, (f .pre .there, f .pre .single (i .if1 .left)))
+    (f .pre .ready, (f .pre .there, turn-single (f .args .g) (f .args .lost) (f .pre) (i .if1 .left)))
 
 pub partner-turn-spec : {M : Type 1} → statement M
 partner-turn-spec =
     tie.close
     (tie.spec
+    (λ c. search needs)
     (λ c. let f = c .before .before .before in turn-skipped (f .args .g) (f .args .lost) (f .pre) (c .if1 .taken))
     partner-item-requires
     (λ c. search needs)

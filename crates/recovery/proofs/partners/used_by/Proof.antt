@@ -1,4 +1,4 @@
--- `used_by` meets its contract: no survivor, or one whose occupied entries are listed. Assumes nothing.
+-- `used_by` meets its contract: no survivor, or the frames of its row. Assumes nothing.
 use Rattle.table.specs.View.{view}
 use Rattle.recovery.specs.PartnersCode.{used-dead, used-live}
 use borrow.Author.Needs.{needs}
@@ -8,14 +8,13 @@ use Rattle.recovery.proofs.partners.used_by.Tie as tie
 returns : tie.Need-returns
 returns c =
     let m = c .before in
-    let f = m .before .before .before in
+    let f = m .before .before in
     used-dead (f .args .g) (f .args .lost) (view (f .args .g) (f .args .table .now)) _ (m .survivor-mark .ensures) (c .if1 .taken)
 
 returns-2 : tie.Need-returns-2
 returns-2 c =
-    let o = c .before .before .before .before in
-    let f = o .before .before .before .before .before .before in
-    used-live (f .args .g) (f .args .lost) (view (f .args .g) (f .args .table .now)) _ (c .row-listed .ensures) (o .occupied .ensures .size)
+    let f = c .before .before .before .before in
+    used-live (f .args .g) (f .args .lost) (view (f .args .g) (f .args .table .now)) _ (c .used-in .ensures)
 
 pub used-by-spec : {M : Type 1} → statement M
 used-by-spec =
@@ -24,6 +23,4 @@ used-by-spec =
     (λ c κs. search needs)
     returns
     (λ c κs. search needs)
-    (λ c κs. search needs)
-    (λ c. search needs)
     returns-2)
