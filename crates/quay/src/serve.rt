@@ -1,5 +1,5 @@
 // A step carried out on quay's table.
-use recovery::call::Call;
+use restore::call::Call;
 use steps::decode::Step;
 use steps::lines::Outcome;
 use table::answers::Answer;
@@ -46,7 +46,7 @@ fn accepted(answer: Answer) -> bool {
 fn call(table: &mut [u64], scratch: &mut [u64], formatted: bool, call: Call) -> Served {
     let format = is_format(call);
     let lent = lent(table, formatted | format);
-    let answer = recovery::call::carry_out(lent, call, scratch, WHOLE);
+    let answer = restore::call::carry_out(lent, call, scratch, WHOLE);
     Served {
         outcome: Outcome::Answered(answer),
         formatted: formatted | (format & accepted(answer)),

@@ -1,12 +1,10 @@
-// Recovery after the loss of a node, or of none; a call as a value; demand 3 carried out.
-pub mod call;
+// Recovery after the loss of a node, or of none.
 mod census;
 mod closing;
 pub mod lost;
 mod numbering;
 mod partners;
 pub mod recover;
-pub mod rehearse;
 mod rolling;
 mod rows;
 mod scratch;

@@ -9,8 +9,8 @@ use Rattle.homes.specs.declared.places.Place.{Place}
 use Rattle.homes.specs.Places.{placeBy}
 use Rattle.recovery.specs.declared.lost.Lost.{Lost}
 use Rattle.recovery.specs.Lost.{lostBy}
-use Rattle.recovery.specs.declared.call.Call.{Call}
-use Rattle.recovery.specs.declared.call.Call.the-variants.{Format, Read, Write, Evict, Recover}
+use Rattle.restore.specs.declared.call.Call.{Call}
+use Rattle.restore.specs.declared.call.Call.the-variants.{Format, Read, Write, Evict, Recover}
 use Rattle.steps.specs.declared.decode.Step.{Step}
 use Rattle.steps.specs.declared.decode.Step.the-variants.{Asked, Malformed}
 use Rattle.steps.specs.Steps.{operationOf, nodeOf, itemOf, placeOf, restOf, formatStep, readStep, writeStep, evictStep, bareStep, recoverStep, stepBy, stepOf}

@@ -5,7 +5,7 @@ use mathlib.Core.List.{[], _∷_, _++_, map}
 use lib.ListN.{replicate}
 use Rattle.homes.specs.declared.places.Place.the-variants.{Current, Kept}
 use Rattle.recovery.specs.declared.lost.Lost.the-variants.{Nobody, Node}
-use Rattle.recovery.specs.declared.call.Call.the-variants.{Format, Read, Write, Evict, Open, Create, Commit, Abandon, Recover}
+use Rattle.restore.specs.declared.call.Call.the-variants.{Format, Read, Write, Evict, Open, Create, Commit, Abandon, Recover}
 use Rattle.steps.specs.declared.decode.Step.the-variants.{Asked, Malformed}
 use Rattle.homes.specs.Places.{placeBy}
 use Rattle.recovery.specs.Lost.{lostBy}

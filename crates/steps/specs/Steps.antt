@@ -5,8 +5,8 @@ use lib.Dec.{eqb}
 use Rattle.table.specs.Words.{sizeForm, nodesOf, itemsOf, framesOf}
 use Rattle.homes.specs.Places.{placeBy}
 use Rattle.recovery.specs.Lost.{lostBy}
-use Rattle.recovery.specs.declared.call.Call.{Call}
-use Rattle.recovery.specs.declared.call.Call.the-variants.{Format, Read, Write, Evict, Open, Create, Commit, Abandon, Recover}
+use Rattle.restore.specs.declared.call.Call.{Call}
+use Rattle.restore.specs.declared.call.Call.the-variants.{Format, Read, Write, Evict, Open, Create, Commit, Abandon, Recover}
 use Rattle.steps.specs.declared.decode.Step.{Step}
 use Rattle.steps.specs.declared.decode.Step.the-variants.{Asked, Malformed}
 

@@ -1,7 +1,7 @@
 // A record's two words, decoded.
 ghost use mathlib.Core.Path.{_≡_};
 ghost use Rattle.steps.specs.Steps.{nodeOf, itemOf, placeOf, restOf, formatStep, readStep, writeStep, evictStep, bareStep, recoverStep, stepOf};
-use recovery::call::Call;
+use restore::call::Call;
 
 // What a record asks for: a call, or nothing that is in form.
 pub enum Step {

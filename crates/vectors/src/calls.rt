@@ -1,6 +1,6 @@
 // The call of a vector.
 use crate::read::Vector;
-use recovery::call::Call;
+use restore::call::Call;
 
 // A call, or an operation that is not known.
 pub(crate) enum Asked {

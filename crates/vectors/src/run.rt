@@ -42,7 +42,7 @@ fn run_call(
     match asked {
         Asked::Unknown => Outcome::Malformed,
         Asked::Known(call) => {
-            let answer = recovery::call::carry_out(table, call, scratch, v.limit);
+            let answer = restore::call::carry_out(table, call, scratch, v.limit);
             let answered = compare::same_answer(number, v, answers::numbers_of(answer));
             let stored = compare::same_words(number, b" table ", table, expected);
             let cleared = compare::same_words(number, b" scratch ", scratch, left);

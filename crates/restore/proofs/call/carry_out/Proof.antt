@@ -1,0 +1,55 @@
+-- `carry_out` meets its contract: the call that it is given has its plan and its scratch. Assumes nothing.
+use Rattle.restore.specs.CallCode.{out-format, out-check, out-stretch, out-read, out-write, out-evict, out-open, out-create, out-commit, out-abandon, out-recover}
+use borrow.Author.Needs.{needs}
+use Rattle.restore.proofs.call.carry_out.Statement.{statement}
+use Rattle.restore.proofs.call.carry_out.Tie as tie
+
+pub carry-out-spec : {M : Type 1} → statement M
+carry-out-spec =
+    tie.close
+    (tie.spec
+    (λ c. search needs)
+    (λ c κs. search needs)
+    (λ c. search needs)
+    (λ c κs. search needs)
+    (λ c. search needs)
+    (λ c κs. search needs)
+    (λ c. search needs)
+    (λ c κs. search needs)
+    (λ c. search needs)
+    (λ c κs. search needs)
+    (λ c. search needs)
+    (λ c κs. search needs)
+    (λ c. search needs)
+    (λ c κs. search needs)
+    (λ c. search needs)
+    (λ c κs. search needs)
+    (λ c. search needs)
+    (λ c κs. search needs)
+    (λ c. search needs)
+    (λ c κs. search needs)
+    (λ c. search needs)
+    (λ c κs. search needs)
+    (λ c. search needs)
+    (λ c. search out-format)
+    (λ c. search needs)
+    (λ c. search out-check)
+    (λ c. search needs)
+    (λ c. search out-stretch)
+    (λ c. search needs)
+    (λ c. search out-read)
+    (λ c. search needs)
+    (λ c. search out-write)
+    (λ c. search needs)
+    (λ c. search out-evict)
+    (λ c. search needs)
+    (λ c. search out-open)
+    (λ c. search needs)
+    (λ c. search out-create)
+    (λ c. search needs)
+    (λ c. search out-commit)
+    (λ c. search needs)
+    (λ c. search out-abandon)
+    (λ c. search needs)
+    (λ c. search needs)
+    (λ c. search out-recover))

@@ -1,0 +1,29 @@
+-- `call_at` meets its contract: the five words of the call. Assumes nothing.
+use Rattle.restore.specs.RehearseCode.{call-here, call-past}
+use borrow.Author.Needs.{needs}
+use Rattle.restore.proofs.rehearse.call_at.Statement.{statement}
+use Rattle.restore.proofs.rehearse.call_at.Tie as tie
+
+returns : tie.Need-returns
+returns c =
+    let w₃ = c .before .before .before in
+    call-here _ _ (w₃ .before .before .before .if1 .taken) (w₃ .before .before .word .ensures) (w₃ .before .word2 .ensures) (w₃ .word3 .ensures)
+    (c .before .before .word4 .ensures) (c .before .word5 .ensures) (c .call-by .ensures)
+
+pub call-at-spec : {M : Type 1} → statement M
+call-at-spec =
+    tie.close
+    (tie.spec
+    (λ c. search needs)
+    (λ c κs. search needs)
+    (λ c. search needs)
+    (λ c κs. search needs)
+    (λ c. search needs)
+    (λ c κs. search needs)
+    (λ c. search needs)
+    (λ c κs. search needs)
+    (λ c. search needs)
+    (λ c κs. search needs)
+    (λ c κs. search needs)
+    returns
+    (λ c. call-past _ _ (c .if1 .left)))

@@ -1,0 +1,207 @@
+-- Document 01's examples marked P, in one table, and one proof that the definitions give it.
+use Prim.Native.Nat.{ℕ}
+use mathlib.Core.Path.{_≡_, refl}
+use mathlib.Core.Bool.{cond}
+use mathlib.Core.List.{List, [], _∷_}
+use lib.Dec.{eqb}
+use lib.ListN.{getD, take, replicate}
+use Rattle.counting.specs.Counting.{every, sum, count}
+use Rattle.counting.specs.First.{first, firstOr}
+use Rattle.counting.specs.Values.{valuesOf}
+use Rattle.table.specs.Geometry.{geometryOf}
+use Rattle.table.specs.Changes.{changeOf}
+use Rattle.table.specs.Stores.{runs, after}
+use Rattle.table.specs.View.{view, current}
+use Rattle.table.specs.MarksPass.{markTo, marksTo}
+use Rattle.table.specs.Copies.{backBy}
+use Rattle.table.specs.declared.answers.Numbers.{Numbers}
+use Rattle.table.specs.Answers.{Plan, numbersAt, tableOf}
+use Rattle.entries.specs.Format.{firstEntries, formatStores, formatMade}
+use Rattle.entries.specs.Frames.{framesIn, framesAt, used, framesFit}
+use Rattle.entries.specs.Items.{itemTest}
+use Rattle.entries.specs.Sound.{marksForm, phasesOf, pointsOf, statesForm, nodeSound, nodesSound, itemSound, itemsSound, sound}
+use Rattle.entries.specs.Check.{lengthOf, sizesOf, soundOf, faultOf}
+use Rattle.homes.specs.declared.places.Place.the-variants.{Current}
+use Rattle.homes.specs.Plans.{planAdmitted, planChecked, planBy}
+use Rattle.homes.specs.Admission.{admissionOf, frameFull, frameAdmission}
+use Rattle.calls.specs.Transitions.{changeTo}
+use Rattle.entries.specs.Dirty.{ownsAt, ownerOf, dirty, dirtyItem}
+use Rattle.checkpoints.specs.Checkpoint.{commonMark, isOpen, openAdmission, liveChanges, entriesBefore}
+use Rattle.checkpoints.specs.Closing.{commitChange, closeChange}
+use Rattle.homes.specs.Home.{sharedAt, sharedItem, hasFrame, hasRoom, placeFits, fits, nodeAfter, fitsAfter, passedOver, homeOf, droppedItem, currentLeft, arrivalOf, dropStores, arrivalChanges, homeStoresBy, homeStores}
+use Rattle.calls.specs.Read.{servesAt, serverOf, fetchFrom, readStores, readValue}
+use Rattle.calls.specs.Write.{otherChanges, otherStores, ownKeep, keptAfter, ownChanges, writeStores}
+use Rattle.homes.specs.Evict.{sourceStores, movedTo, evictStores, placeAdmission}
+use Rattle.checkpoints.specs.Open.{startAdmission}
+use Rattle.checkpoints.specs.Create.{sharesAt, sharerOf, partnerStores as createdPartner, createItem, noPartner, createPlan}
+use Rattle.checkpoints.specs.Commit.{commitStores, createdAdmission}
+use Rattle.recovery.specs.declared.lost.Lost.{Lost}
+use Rattle.recovery.specs.declared.lost.Lost.the-variants.{Nobody, Node}
+use Rattle.restore.specs.declared.call.Call.{Call}
+use Rattle.restore.specs.declared.call.Call.the-variants.{Format, Read, Write, Evict, Open, Create, Commit, Recover}
+use Rattle.counting.specs.Exists.{exists}
+use Rattle.recovery.specs.Survivors.{survivorCount}
+use Rattle.recovery.specs.Sides.{forwardIn, copiesOn, itemFits, itemsFit}
+use Rattle.recovery.specs.Rolling.{bringBack, settled, rollChange, rollStores}
+use Rattle.recovery.specs.Numbering.{holders, numberAfter, numberChange, numberStores}
+use Rattle.recovery.specs.Partners.{single, holderOf, takes, takesAfter, partnerOf, partnerChanges, partnerFrom, partnerStores, staged, partnersStores}
+use Rattle.recovery.specs.ClosingMarks.{largest, largestNumber, closingStores}
+use Rattle.recovery.specs.Recover.{followed, survivorStores, recoverStores, survivorsFormed, tooFewWith, tooFew, recoverAdmission, recoverChecked, recoverOf}
+use Rattle.restore.specs.Call.{planOf}
+use Rattle.restore.specs.Run.{Step, geometryIn, storeCount, planAt, tableBy, run}
+
+-- ---- the calls
+
+-- with a scratch of M + N words
+abbrev pub step : Call → Step
+step call = record { call = call; scratch = 4 }
+
+-- the words of 3 nodes and 1 item
+abbrev pub zeros : List ℕ
+zeros = replicate 13 0
+
+-- "Records: format 3, 1, 2; write node 2 item 0 value 7; read node 0; open; create; commit; write node 0 value 9; recover lost 2; read node 1;
+-- read node 2."
+abbrev pub records : List Step
+records =
+    step (Format 3 1 2)
+    ∷ step (Write 2 0 7)
+    ∷ step (Read 0 0)
+    ∷ step Open
+    ∷ step Create
+    ∷ step Commit
+    ∷ step (Write 0 0 9)
+    ∷ step (Recover (Node 2))
+    ∷ step (Read 1 0)
+    ∷ step (Read 2 0)
+    ∷ []
+
+-- ---- the tables
+
+-- before record k
+abbrev pub before : ℕ → List ℕ
+before k = run zeros (take k records)
+
+-- "that commit cut after" so many stores, and the recovery
+abbrev pub cutCommit : ℕ → List ℕ
+cutCommit limit = tableOf (planAt (before 5) (step Commit)) limit (before 5)
+
+abbrev pub recovered : ℕ → Lost → List ℕ
+recovered limit lost = tableBy (cutCommit limit) (step (Recover lost))
+
+-- "geometry 3, 1, 1", and after these calls
+abbrev pub narrow : List Step → List ℕ
+narrow calls = run zeros (step (Format 3 1 1) ∷ calls)
+
+-- ---- the rows: what the definitions give, and what the document says
+
+pub data Shown : Type 0 where
+  -- answer, value and stores of a call
+  numbers : Numbers → Shown
+  -- the value of a read that is carried out
+  read : ℕ → Shown
+  -- a call is carried out
+  done : Shown
+  -- the state code of a current place
+  state : ℕ → Shown
+
+pub record Row : Type 0 where
+  pub given : Shown
+  pub written : Shown
+
+abbrev pub wholeNumbers : Plan → Numbers
+wholeNumbers plan = numbersAt plan (storeCount plan)
+
+-- the numbers of a whole call
+abbrev pub numbersBy : List ℕ → Step → Numbers
+numbersBy t s = wholeNumbers (planAt t s)
+
+-- a call that is not carried out shows its numbers
+abbrev pub ifDone : Numbers → Shown → Shown
+ifDone n shown = cond (eqb (n .answer) 0) shown (numbers n)
+
+abbrev pub readShown : Numbers → Shown
+readShown n = ifDone n (read (n .value))
+
+-- a call on a table: answer, value, stores
+abbrev pub call : List ℕ → Step → ℕ → ℕ → ℕ → Row
+call t s answer x stores = record { given = numbers (numbersBy t s); written = numbers (record { answer = answer; value = x; stores = stores }) }
+
+-- "A line: record counted from 0, answer (0 if carried out), value, stores."
+abbrev pub line : ℕ → ℕ → ℕ → ℕ → Row
+line k = call (before k) (getD records k (step Open))
+
+-- a call on a table is "done"
+abbrev pub isDone : List ℕ → Step → Row
+isDone t s = record { given = ifDone (numbersBy t s) done; written = done }
+
+-- a read at node n "gives" x
+abbrev pub gives : List ℕ → ℕ → ℕ → Row
+gives t n x = record { given = readShown (numbersBy t (step (Read n 0))); written = read x }
+
+-- the current place of node n
+abbrev pub stateIs : List ℕ → ℕ → ℕ → Row
+stateIs t n code = record { given = state (current (view (geometryIn t) t .entry n 0)); written = state code }
+
+-- ---- the table
+
+abbrev pub examples : List Row
+examples =
+    -- "format 3, 1, 2"
+    line 0 0 0 13
+    -- "write node 2 item 0 value 7"
+    ∷ line 1 0 0 6
+    -- "read node 0"
+    ∷ line 2 0 7 3
+    -- "open"
+    ∷ line 3 0 0 3
+    -- "create"
+    ∷ line 4 0 0 2
+    -- "commit"
+    ∷ line 5 0 0 9
+    -- "write node 0 value 9"
+    ∷ line 6 0 0 6
+    -- "recover lost 2"
+    ∷ line 7 0 0 8
+    -- "read node 1"
+    ∷ line 8 0 7 0
+    -- "read node 2"
+    ∷ line 9 6 0 0
+    -- "that commit cut after 1 store: lost node 0 gives 0", at each survivor
+    ∷ gives (recovered 1 (Node 0)) 1 0
+    ∷ gives (recovered 1 (Node 0)) 2 0
+    -- "lost 1, 2 or none gives 7"
+    ∷ gives (recovered 1 (Node 1)) 0 7
+    ∷ gives (recovered 1 (Node 1)) 2 7
+    ∷ gives (recovered 1 (Node 2)) 0 7
+    ∷ gives (recovered 1 (Node 2)) 1 7
+    ∷ gives (recovered 1 Nobody) 0 7
+    ∷ gives (recovered 1 Nobody) 1 7
+    ∷ gives (recovered 1 Nobody) 2 7
+    -- "cut after 2 stores: lost node 0 gives 7"
+    ∷ gives (recovered 2 (Node 0)) 1 7
+    ∷ gives (recovered 2 (Node 0)) 2 7
+    -- "after record 1, evicting node 2's current place takes 3 stores"
+    ∷ call (before 2) (step (Evict 2 0 Current)) 0 0 3
+    -- "node 0 is Modified": "Current: .. 3 Modified (exclusive)"
+    ∷ stateIs (tableBy (before 2) (step (Evict 2 0 Current))) 0 3
+    -- "geometry 3, 1, 1: a write at node 0 is 9"
+    ∷ call (narrow []) (step (Write 0 0 7)) 9 0 0
+    -- "at node 2 done"
+    ∷ isDone (narrow []) (step (Write 2 0 7))
+    -- "open"
+    ∷ isDone (narrow (step (Write 2 0 7) ∷ [])) (step Open)
+    -- "create then 11"
+    ∷ call (narrow (step (Write 2 0 7) ∷ step Open ∷ [])) (step Create) 11 0 0
+    ∷ []
+
+-- ---- the proof, by computation
+
+-- each row is as it is written
+unfoldable pub Given : List Row → Type 0
+Given [] = Unit {0}
+Given (r ∷ rs) = (r .given ≡ r .written) × Given rs
+
+pub examples-given : Given examples
+unfolding every sum count first firstOr valuesOf geometryOf changeOf runs after view markTo marksTo backBy firstEntries formatStores formatMade framesIn framesAt used framesFit itemTest marksForm phasesOf pointsOf statesForm nodeSound nodesSound itemSound itemsSound sound lengthOf sizesOf soundOf faultOf planAdmitted planChecked planBy admissionOf frameFull frameAdmission changeTo commonMark isOpen openAdmission ownsAt ownerOf dirty dirtyItem liveChanges entriesBefore commitChange closeChange sharedAt sharedItem hasFrame hasRoom placeFits fits nodeAfter fitsAfter passedOver homeOf droppedItem currentLeft arrivalOf dropStores arrivalChanges homeStoresBy homeStores servesAt serverOf fetchFrom readStores readValue otherChanges otherStores ownKeep keptAfter ownChanges writeStores sourceStores movedTo evictStores placeAdmission startAdmission sharesAt sharerOf createdPartner createItem noPartner createPlan commitStores createdAdmission exists survivorCount forwardIn copiesOn itemFits itemsFit bringBack settled rollChange rollStores holders numberAfter numberChange numberStores single holderOf takes takesAfter partnerOf partnerChanges partnerFrom partnerStores staged partnersStores largest largestNumber closingStores followed survivorStores recoverStores survivorsFormed tooFewWith tooFew recoverAdmission recoverChecked recoverOf planOf run Given
+examples-given = (refl, (refl, (refl, (refl, (refl, (refl, (refl, (refl, (refl, (refl, (refl, (refl, (refl, (refl, (refl, (refl, (refl, (refl, (refl, (refl, (refl, (refl, (refl, (refl, (refl, (refl, (refl, tt)))))))))))))))))))))))))))

@@ -1,0 +1,143 @@
+-- A REHEARSAL: demand 3, carried out by the code on a lent table. What it is given, as words; the tables that it goes through; what makes it a strike.
+use Prim.Native.Nat.{ℕ, zero, suc, _+_, _-_, _*_, _/_, _≤_, min}
+use mathlib.Core.Path.{_≡_}
+use mathlib.Core.Bool.{true, cond}
+use mathlib.Core.List.{List, [], _∷_, _++_}
+use native.Mathlib.Omega.{arith}
+use lib.Dec.{eqb, ltb}
+use lib.ListN.{length, getD, set}
+use Rattle.table.specs.declared.geometry.Geometry.{Geometry}
+use Rattle.table.specs.Geometry.{entryWords, markAt, entryAt}
+use Rattle.table.specs.View.{view}
+use Rattle.table.specs.Answers.{Plan, tableOf}
+use Rattle.entries.specs.declared.check.Checked.{Checked}
+use Rattle.entries.specs.declared.check.Checked.the-variants.{Passed, Failed}
+use Rattle.entries.specs.Check.{sizesOf}
+use Rattle.homes.specs.Places.{placeBy}
+use Rattle.recovery.specs.declared.lost.Lost.{Lost}
+use Rattle.recovery.specs.declared.lost.Lost.the-variants.{Nobody, Node}
+use Rattle.restore.specs.declared.call.Call.{Call}
+use Rattle.restore.specs.declared.call.Call.the-variants.{Format, Check, Stretch, Read, Write, Evict, Open, Create, Commit, Abandon, Recover}
+use Rattle.recovery.specs.Lost.{lostBy}
+use Rattle.recovery.specs.Recover.{scratchWords, recoverOf}
+use Rattle.restore.specs.Run.{Step, geometryIn, wholeTable, planAt, run, Formatted}
+use Rattle.restore.specs.Strike.{canBeCut, liveOrNone, Attempt, brokenOff}
+
+-- ---- the list of calls: five words a call, its operation, three arguments and a flag. The flag of an Evict is its place (0 current, else kept), that of a
+-- Recover says that none was lost (0: the node of the first argument, else none).
+
+-- an operation that is none of these is a check
+unfoldable pub callBy : ℕ → ℕ → ℕ → ℕ → ℕ → Call
+callBy operation x y z flag =
+    cond (eqb operation 0) (Format x y z)
+    (cond (eqb operation 1) (Read x y)
+    (cond (eqb operation 2) (Write x y z)
+    (cond (eqb operation 3) (Evict x y (placeBy flag))
+    (cond (eqb operation 4) Open
+    (cond (eqb operation 5) Create
+    (cond (eqb operation 6) Commit
+    (cond (eqb operation 7) Abandon
+    (cond (eqb operation 8) (Recover (lostBy flag x))
+    (cond (eqb operation 10) (Stretch x)
+    Check)))))))))
+
+abbrev pub callCount : List ℕ → ℕ
+callCount words = length words / 5
+
+-- call i of the list; past its end a check
+unfoldable pub callAt : List ℕ → ℕ → Call
+callAt words i =
+    cond (ltb i (callCount words))
+    (callBy (getD words (5 * i) 0) (getD words (5 * i + 1) 0) (getD words (5 * i + 2) 0) (getD words (5 * i + 3) 0) (getD words (5 * i + 4) 0))
+    Check
+
+-- the first k calls of the list; each gets the same scratch
+unfoldable pub stepsTo : List ℕ → ℕ → ℕ → List Step
+stepsTo words scratch zero = []
+stepsTo words scratch (suc k) = stepsTo words scratch k ++ (record { call = callAt words k; scratch = scratch } ∷ [])
+
+-- ---- the hit: word i of the given ones becomes word i of the node, its mark and then its entries' words, as far as both go
+
+unfoldable pub nodeWordAt : Geometry → ℕ → ℕ → ℕ
+nodeWordAt g n i = cond (eqb i 0) (markAt n) (entryAt g n 0 + (i - 1))
+
+abbrev pub nodeWords : Geometry → ℕ
+nodeWords g = 1 + entryWords * g .items
+
+-- the first k of them
+unfoldable pub putTo : Geometry → ℕ → List ℕ → ℕ → List ℕ → List ℕ
+putTo g n words zero t = t
+putTo g n words (suc k) t = set (putTo g n words k t) (nodeWordAt g n k) (getD words k 0)
+
+-- nothing, if the node is not one of the table's
+unfoldable pub hitNode : Geometry → ℕ → List ℕ → List ℕ → List ℕ
+hitNode g n words t = cond (ltb n (g .nodes)) (putTo g n words (min (length words) (nodeWords g)) t) t
+
+unfoldable pub hitSized : Checked → ℕ → List ℕ → List ℕ → List ℕ
+hitSized (Failed r) n words t = t
+hitSized (Passed g) n words t = hitNode g n words t
+
+unfoldable pub hitBy : Lost → List ℕ → List ℕ → List ℕ
+hitBy Nobody words t = t
+hitBy (Node n) words t = hitSized (sizesOf t) n words t
+
+-- ---- the recoveries, broken off at the given limits: each gets the same scratch
+
+unfoldable pub attemptsAt : {least : ℕ} (scratch : ℕ) → least ≤ scratch → List ℕ → List (Attempt least)
+attemptsAt scratch enough [] = []
+attemptsAt scratch enough (limit ∷ limits) = record { limit = limit; scratch = scratch; enough = enough } ∷ attemptsAt scratch enough limits
+
+-- any scratch
+abbrev pub brokenAt : Lost → ℕ → List ℕ → List ℕ → List ℕ
+brokenAt lost scratch limits t = brokenOff lost (attemptsAt {least = 0} scratch (omega arith) limits) t
+
+-- ---- the rehearsal
+
+-- what it is given besides the table
+pub record Script : Type 0 where
+  -- the words of the whole calls
+  pub calls : List ℕ
+  -- the call that is cut, and its limit
+  pub call : Call
+  pub limit : ℕ
+  -- the node that is hit, and that every recovery names, or none; and its words then
+  pub lost : Lost
+  pub words : List ℕ
+  -- the limits of the recoveries that are broken off
+  pub limits : List ℕ
+  -- the length of the scratch
+  pub scratch : ℕ
+
+module _ (t₀ : List ℕ) (p : Script) where
+  -- the whole calls, and the call that is cut
+  abbrev pub wholeCalls : List Step
+  wholeCalls = stepsTo (p .calls) (p .scratch) (callCount (p .calls))
+
+  abbrev pub next : Step
+  next = record { call = p .call; scratch = p .scratch }
+
+  -- the tables, one after the other
+  abbrev pub before : List ℕ
+  before = run t₀ wholeCalls
+
+  abbrev pub cut : List ℕ
+  cut = tableOf (planAt before next) (p .limit) before
+
+  abbrev pub struck : List ℕ
+  struck = hitBy (p .lost) (p .words) cut
+
+  abbrev pub attempted : List ℕ
+  attempted = brokenAt (p .lost) (p .scratch) (p .limits) struck
+
+  abbrev pub lastRecovery : Plan
+  lastRecovery = recoverOf attempted (p .lost) (p .scratch)
+
+  abbrev pub recovered : List ℕ
+  recovered = wholeTable lastRecovery attempted
+
+  -- what makes it a strike on a formatted table
+  pub record Demanded : Type 0 where
+    pub formatted : Formatted t₀
+    pub cuttable : canBeCut (p .call) ≡ true
+    pub one : liveOrNone (view (geometryIn before) cut) (p .lost) ≡ true
+    pub enough : scratchWords (geometryIn before) ≤ p .scratch

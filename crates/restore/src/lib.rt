@@ -1,0 +1,3 @@
+// A call as a value, and demand 3 carried out.
+pub mod call;
+pub mod rehearse;
