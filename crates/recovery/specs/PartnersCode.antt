@@ -31,6 +31,7 @@ use Rattle.recovery.specs.SurvivorsCode.{survivor-entry}
 use Rattle.recovery.specs.Rolling.{sharedCK}
 use Rattle.recovery.specs.Partners.{single, holderOf, takes, takesAfter, partnerOf, partnerChanges, partnerFrom, partnerStores, staged, partnersStores}
 use Rattle.recovery.specs.Followed.{stored-any, view-left, Entered, entered-changes, entered-within, survivors-entered, stage-follows}
+use Rattle.recovery.specs.Rows.{HasEntry}
 use Rattle.recovery.specs.PartnersCounts.{AgreesTo, Counts, usedWith, agrees-start, agrees-turn, partner-agrees}
 
 -- ---- definitions
@@ -104,6 +105,9 @@ module _ (g : Geometry) (w : View) (s : List ℕ) (b : ℕ) where
     found-takes : Taker n p
     found-takes = subst (Taker n) (sym e) (partner-takes n h (λ z. d (e ∙ z)))
 
+    pub found-there : p < g .nodes
+    found-there = found-takes .there
+
     pub found-room : g .nodes ≤ length s → p < length s
     found-room room = omega (arith, found-takes .there)
 
@@ -115,15 +119,16 @@ module _ (g : Geometry) (w : View) (s : List ℕ) (b : ℕ) where
   pub found : (n : ℕ) {p : ℕ} → g .frames < 65536 → n < g .nodes → p ≡ partnerBy g w s b n → Found n p
   found n l h e = record { is = e; few = λ d. omega (arith, found-takes n h e d .few) }
 
+-- the entry of the node so many steps after another
+pub after-entry :
+    (g : Geometry) (t : List ℕ) (n b : ℕ) → HasEntry g t n b → (i : ℕ) → i < g .nodes → {h : ℕ} → h ≡ nodeAfter g n i → HasEntry g t h b
+after-entry g t n b e i l q = (rw q (after-below g n (e .0) i l), e .1)
+
 -- ---- a node's copy, and whether it can take a partner
 
 module _ (lost : Lost) (v : View) (b n : ℕ) {mark : ℕ} (h : mark ≡ survivors lost v .mark n) where
-  pub copy-dead : mark ≡ 0 → false ≡ copy (survivors lost v) b n
-  copy-dead e = rw (← h, eq-eqb mark 0 e) refl
-
-  pub copy-live :
-      {state c : ℕ} → (mark ≡ 0 → ⊥) → state ≡ v .entry n b .state → c ≡ currentOf state → not (eqb c 0) ≡ copy (survivors lost v) b n
-  copy-live e p q = rw (← h, ne-eqb mark 0 e, survivor-entry lost v, q, p) refl
+  pub copy-here : {state c : ℕ} → state ≡ v .entry n b .state → c ≡ currentOf state → (not (eqb mark 0) && not (eqb c 0)) ≡ copy (survivors lost v) b n
+  copy-here p q = rw (← h, survivor-entry lost v, q, p) refl
 
   module _ (g : Geometry) (s : List ℕ) where
     pub takes-dead : mark ≡ 0 → false ≡ takesBy g (survivors lost v) s b n

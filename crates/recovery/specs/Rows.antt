@@ -11,12 +11,16 @@ use mir.Val.{boolByte}
 use lib.Dec.{eqb}
 use lib.ListN.{length, getD, set, length-set}
 use lib.Seq.{getD-set-same, getD-set-other}
-use Rattle.counting.specs.Tests.{by-cases}
-use borrow.Author.Tests.{eqb-true}
+use Rattle.counting.specs.Tests.{by-cases, and-both}
+use borrow.Author.Tests.{eqb-true, lt-ltb}
 use Rattle.table.specs.declared.geometry.Geometry.{Geometry}
-use Rattle.table.specs.Geometry.{wordsOf, Placed}
-use Rattle.table.specs.View.{View, view}
+use Rattle.table.specs.Geometry.{wordsOf, entryAt, Placed, entry-within, product}
+use Rattle.table.specs.View.{View, view, entryIn, entry-read}
 use Rattle.entries.specs.Row.{rowState, row-state, row-read}
+
+-- the entry is there, and all words of the table
+abbrev pub HasEntry : Geometry → List ℕ → ℕ → ℕ → Type 0
+HasEntry g t n b = (n < g .nodes) × ((b < g .items) × (wordsOf g ≤ length t))
 
 -- the state word of node n's entry of item b
 abbrev pub stateIn : View → ℕ → ℕ → ℕ
@@ -232,3 +236,27 @@ module _ (g : Geometry) (t : List ℕ) (n : ℕ) (h : n < g .nodes) {start : ℕ
 
   pub row-listed : {l l′ : List ℕ} {r : ℕ} → Listing (rowState t start) (g .items) l l′ r → Listing (stateIn (view g t) n) (g .items) l l′ r
   row-listed = listed-ext (row-state g t n h a)
+
+-- ---- an entry read at its place
+
+module _ (g : Geometry) (t : List ℕ) (n b : ℕ) (h : HasEntry g t n b) {at : ℕ} (a : at ≡ entryAt g n b) where
+  pub entry-room : at + 2 < length t
+  entry-room = omega (arith, a, entry-within g (h .0) (h .1 .0), h .1 .1)
+
+  read : view g t .entry n b ≡ entryIn t (entryAt g n b)
+  read = entry-read g t n b (and-both (lt-ltb _ _ (h .0)) (lt-ltb _ _ (h .1 .0)))
+
+  pub entry-state : getD t at 0 ≡ view g t .entry n b .state
+  entry-state = let z : at ≡ entryAt g n b + 0 = omega (arith, a) in ap (λ i. getD t i 0) z ∙ sym (ap (λ e. e .state) read)
+
+  pub entry-value : getD t (at + 1) 0 ≡ view g t .entry n b .value
+  entry-value = ap (λ i. getD t (i + 1) 0) a ∙ sym (ap (λ e. e .value) read)
+
+-- the entry of the node after
+pub entry-next : (g : Geometry) (n b : ℕ) {at : ℕ} → at ≡ entryAt g n b → at + 3 * g .items ≡ entryAt g (n + 1) b
+entry-next g n b a = let e : (n + 1) * g .items ≡ n * g .items + g .items = omega arith in omega (arith, a, e)
+
+-- of narrow numbers
+pub entry-near :
+    (g : Geometry) (n b : ℕ) {at : ℕ} → n ≤ 255 → g .nodes ≤ 255 → g .items ≤ 65535 → b ≤ 65535 → at ≡ entryAt g n b → at < 1000000000
+entry-near g n b hn hg hi hb a = omega (arith, a, product 255 65535 hn hi)

@@ -3,19 +3,21 @@
 ghost use mathlib.Core.Path.{_≡_};
 ghost use Prim.Native.Nat.{_≤_, _<_, _-_};
 ghost use lib.ListN.{length};
+ghost use Rattle.table.specs.Geometry.{wordsOf};
 ghost use Rattle.table.specs.Stores.{StoredIn};
 ghost use Rattle.table.specs.View.{view};
 ghost use Rattle.table.specs.Words.{currentOf};
 ghost use Rattle.table.specs.Changes.{checkpointOf};
-ghost use Rattle.entries.specs.Tally.{copy};
 ghost use Rattle.homes.specs.Home.{nodeAfter};
 ghost use Rattle.recovery.specs.Survivors.{survivors};
 ghost use Rattle.recovery.specs.Rolling.{sharedCK};
 ghost use Rattle.recovery.specs.Partners.{holderOf, partnerChanges, partnerFrom, partnerStores, partnersStores};
+ghost use Rattle.recovery.specs.Rows.{HasEntry};
 ghost use Rattle.recovery.specs.PartnersCounts.{usedWith};
 ghost use Rattle.recovery.specs.PartnersCode.{takesBy, Found, UsedBy, Filled, FilledFrom, Ready, Turned};
 ghost use Rattle.recovery.specs.PartnersSkip.{Single, Passable, Settles};
 use crate::lost::Lost;
+use crate::rows;
 use crate::survivors;
 use entries::frames;
 use table::changes;
@@ -60,29 +62,22 @@ pub(crate) fn fill_counted(nodes: u8, used: &[u64], scratch: &mut [u64])
     }
 }
 
-// Whether a node survives and has a copy of an item.
-fn copy_at(table: &[u64], g: Geometry, lost: Lost, item: u16, node: u8) -> bool
-    ensures { λ r. ⌜ r ≡ copy (survivors lost (view g (now (table .entry)))) item node ⌝ }
-{
-    let mark = survivors::survivor_mark(table, g, lost, node);
-    if mark == 0 {
-        return false;
-    }
-    let current = words::current_of(stores::state_at(table, g, node, item));
-    current != words::INVALID
-}
-
 // The lowest survivor with a copy of an item, or the number of nodes if there is none.
 fn holder_of(table: &[u64], g: Geometry, lost: Lost, item: u16) -> u8
+    requires { ⌜ (item < g .items) × (wordsOf g ≤ length (now table)) ⌝ }
     ensures { λ r. ⌜ r ≡ holderOf g (survivors lost (view g (now (table .entry)))) item ⌝ }
 {
     let nodes = g.nodes;
+    let row = Geometry::ENTRY_WORDS * (g.items as usize);
+    let mut at = g.entry_at(0, item);
     let mut node: u8 = 0;
     while node < nodes {
-        let found = copy_at(table, g, lost, item, node);
-        if found {
+        let mark = survivors::survivor_mark(table, g, lost, node);
+        let current = words::current_of(table[at]);
+        if (mark != 0) & (current != words::INVALID) {
             return node;
         }
+        at += row;
         node += 1;
     }
     nodes
@@ -90,13 +85,14 @@ fn holder_of(table: &[u64], g: Geometry, lost: Lost, item: u16) -> u8
 
 // Whether a node can take a partner: a survivor, its current place Invalid, and a frame free.
 fn can_take(table: &[u64], g: Geometry, lost: Lost, scratch: &[u64], item: u16, node: u8) -> bool
+    requires { ⌜ HasEntry g (now table) node item ⌝ }
     ensures { λ r. ⌜ r ≡ takesBy g (survivors lost (view g (now (table .entry)))) (now (scratch .entry)) item node ⌝ }
 {
     let mark = survivors::survivor_mark(table, g, lost, node);
     if mark == 0 {
         return false;
     }
-    let current = words::current_of(stores::state_at(table, g, node, item));
+    let current = words::current_of(rows::state_in(table, g, node, item));
     let used = stores::word(scratch, node as usize);
     let frames = frames::set_frames(g) as u64;
     (current == words::INVALID) & (used < frames)
@@ -117,7 +113,7 @@ fn node_after(g: Geometry, node: u8, passed: u8) -> u8
 
 // The first node after a copy's node, cyclically, that can take its partner; the copy's node itself if none can.
 fn partner_of(table: &[u64], g: Geometry, lost: Lost, scratch: &[u64], item: u16, node: u8) -> u8
-    requires { ⌜ node < g .nodes ⌝ }
+    requires { ⌜ HasEntry g (now table) node item ⌝ }
     ensures { λ r. ⌜ Found g (survivors lost (view g (now (table .entry)))) (now (scratch .entry)) item node r ⌝ }
 {
     let others = g.nodes - 1;
@@ -143,10 +139,11 @@ fn partner_code(state: u64) -> u8
 
 // The partner of a copy, with the absent number: value, then state.
 fn store_partner(table: &mut [u64], left: u64, g: Geometry, partner: u8, item: u16, node: u8) -> u64
+    requires { ⌜ HasEntry g (now table) node item ⌝ }
     ensures { λ r. ⌜ StoredIn g left partner item (partnerChanges (view g (now (table .entry)) .entry node item)) (now (table .entry)) (now (table .exit)) r ⌝ }
 {
-    let value = stores::value_at(table, g, node, item);
-    let state = stores::state_at(table, g, node, item);
+    let value = rows::value_in(table, g, node, item);
+    let state = rows::state_in(table, g, node, item);
     let code = partner_code(state);
     let left = stores::store_value(table, left, g, partner, item, value);
     stores::store_state(table, left, g, partner, item, code, words::INVALID)
@@ -181,7 +178,7 @@ fn partner_from(
     if partner == node {
         return left;
     }
-    let state = stores::state_at(table, g, partner, item);
+    let state = rows::state_in(table, g, partner, item);
     let used = used_with(stores::word(scratch, partner as usize), state);
     scratch[partner as usize] = used;
     store_partner(table, left, g, partner, item, node)

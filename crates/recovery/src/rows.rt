@@ -1,10 +1,11 @@
 // The occupied entries of a node: most entries are Invalid with nothing kept, their state words 0, and a recovery has nothing to do at them.
+ghost use mathlib.Core.Path.{_≡_};
 ghost use Prim.Native.Nat.{_+_, _*_, _/_, _<_, _≤_};
 ghost use lib.ListN.{length};
 ghost use Rattle.table.specs.Geometry.{wordsOf};
 ghost use Rattle.table.specs.View.{view};
 ghost use Rattle.entries.specs.Row.{rowState};
-ghost use Rattle.recovery.specs.Rows.{stateIn, Listing, ListedMore};
+ghost use Rattle.recovery.specs.Rows.{HasEntry, stateIn, Listing, ListedMore};
 use table::geometry::Geometry;
 
 // Lists one entry more: its item stands in the list, and counts if its state word is not 0.
@@ -68,4 +69,22 @@ pub(crate) fn occupied(table: &[u64], g: Geometry, node: u8, list: &mut [u16]) -
 {
     let start = g.entry_at(node, 0);
     occupied_row(table, start, g.items, list)
+}
+
+// The state word of a node's entry, read at its place.
+pub(crate) fn state_in(table: &[u64], g: Geometry, node: u8, item: u16) -> u64
+    requires { ⌜ HasEntry g (now table) node item ⌝ }
+    ensures { λ r. ⌜ r ≡ view g (now (table .entry)) .entry node item .state ⌝ }
+{
+    let at = g.entry_at(node, item);
+    table[at]
+}
+
+// Its current value.
+pub(crate) fn value_in(table: &[u64], g: Geometry, node: u8, item: u16) -> u64
+    requires { ⌜ HasEntry g (now table) node item ⌝ }
+    ensures { λ r. ⌜ r ≡ view g (now (table .entry)) .entry node item .value ⌝ }
+{
+    let at = g.entry_at(node, item);
+    table[at + 1]
 }

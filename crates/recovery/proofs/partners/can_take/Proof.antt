@@ -15,7 +15,7 @@ returns-2 c =
     let d = c .before .before in
     let m = d .before .before in
     let a = m .before .before .before .before .args in
-    takes-live (a .lost) (view (a .g) (a .table .now)) (a .item) (a .node) (m .before .survivor-mark .ensures) (a .g) (a .scratch .now) (m .if1 .left) (d .before .state-at .ensures) (d .current-of .ensures) (c .before .word .ensures) (c .set-frames .ensures)
+    takes-live (a .lost) (view (a .g) (a .table .now)) (a .item) (a .node) (m .before .survivor-mark .ensures) (a .g) (a .scratch .now) (m .if1 .left) (d .before .state-in .ensures) (d .current-of .ensures) (c .before .word .ensures) (c .set-frames .ensures)
 
 pub can-take-spec : {M : Type 1} → statement M
 can-take-spec =

@@ -1,7 +1,7 @@
 -- `partner_from` meets its contract: no partner, or its stores and its frames. Assumes nothing.
 use Rattle.table.specs.View.{view}
 use Rattle.recovery.specs.Survivors.{survivors}
-use Rattle.recovery.specs.PartnersCode.{found-room, from-none, from-made}
+use Rattle.recovery.specs.PartnersCode.{found-there, found-room, from-none, from-made}
 use native.Mathlib.Omega.{arith}
 use borrow.Author.Needs.{needs}
 use Rattle.recovery.proofs.partners.partner_from.Statement.{statement}
@@ -12,6 +12,14 @@ returns c =
     let o = c .before .before .before .before .before .before in
     let a = o .args in
     from-none (a .g) (a .lost) (a .item) (a .node) (o .pre .0) (o .pre .1 .0) (c .before .partner-of .ensures .is) (c .if1 .taken)
+
+state-in-requires : tie.Need-state-in-requires
+state-in-requires c κs =
+    let i = c .before in
+    let p = i .before in
+    let o = p .before .before .before .before .before in
+    let a = o .args in
+    (found-there (a .g) (survivors (a .lost) (view (a .g) (a .table .now))) (a .scratch .now) (a .item) (a .node) (o .pre .1 .0) (p .partner-of .ensures .is) (i .if1 .left), (o .pre .1 .1, o .pre .0 .long))
 
 used-with-requires : tie.Need-used-with-requires
 used-with-requires c κs =
@@ -32,7 +40,7 @@ returns-2 c =
     let p = s .before .before .before in
     let o = p .before .before .before .before .before in
     let a = o .args in
-    from-made (a .g) (a .lost) (a .item) (a .node) (o .pre .0) (o .pre .1 .0) (p .partner-of .ensures .is) (o .pre .1 .1) (s .before .before .if1 .left) (s .state-at .ensures) (u .before .word .ensures) (u .used-with .ensures) (c .before .before .store-partner .ensures)
+    from-made (a .g) (a .lost) (a .item) (a .node) (o .pre .0) (o .pre .1 .0) (p .partner-of .ensures .is) (o .pre .1 .1) (s .before .before .if1 .left) (s .state-in .ensures) (u .before .word .ensures) (u .used-with .ensures) (c .before .before .store-partner .ensures)
 
 pub partner-from-spec : {M : Type 1} → statement M
 partner-from-spec =
@@ -42,7 +50,7 @@ partner-from-spec =
     (λ c. search needs)
     (λ c. search needs)
     returns
-    (λ c κs. search needs)
+    state-in-requires
     (λ c. search needs)
     (λ c κs. search needs)
     used-with-requires
