@@ -11,7 +11,7 @@ use Rattle.counting.specs.Counting.{every, every-at}
 use Rattle.entries.specs.Survey.{codesForm, holds, holdsAt, keepsAt, framesBy, weightOf}
 
 -- one of a list
-abbrev among : List ℕ → ℕ → Bool
+abbrev pub among : List ℕ → ℕ → Bool
 among [] i = false
 among (x ∷ xs) i = among xs i || eqb i x
 
@@ -20,7 +20,7 @@ abbrev pub Unlike : List ℕ → ℕ → Type 0
 Unlike [] i = Unit {0}
 Unlike (x ∷ xs) i = Unlike xs i × (i ≡ x → ⊥)
 
-unlike-among : (l : List ℕ) (i : ℕ) → Unlike l i → among l i ≡ false
+pub unlike-among : (l : List ℕ) (i : ℕ) → Unlike l i → among l i ≡ false
 unlike-among [] i u = refl
 unlike-among (x ∷ xs) i u = rw (unlike-among xs i (u .0), ne-eqb i x (u .1)) refl
 

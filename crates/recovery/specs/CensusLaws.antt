@@ -1,32 +1,35 @@
 -- The census as the code goes: a law for each turn and each way out.
-use Prim.Native.Nat.{ℕ, zero, suc, _+_, _*_, _^_, _≤_, _<_}
-use mathlib.Core.Path.{_≡_, refl, sym, ap, ap₂, _∙_}
+use Prim.Native.Nat.{ℕ, zero, suc, _+_, _*_, _/_, _%_, _^_, _≤_, _<_}
+use mathlib.Core.Path.{_≡_, refl, sym, ap, ap₂, subst, _∙_}
 use mathlib.Core.Bool.{Bool, true, false, _&&_}
 use mathlib.Core.List.{List}
 use native.Mathlib.Omega.{arith}
 use native.Mathlib.Decide.{ℕ-discrete}
-use lib.Dec.{leb}
+use lib.Dec.{eqb, leb}
 use lib.ListN.{length, getD, set, length-set}
 use lib.Seq.{getD-set-same, getD-set-other}
 use borrow.Author.Tests.{lt-ltb, eq-eqb, ne-eqb}
 use Rattle.counting.specs.Tests.{by-cases, and-both, and-true, no-both}
 use Rattle.counting.specs.Counting.{every, sum, sum-none, sum-next, one, count, count-none, count-next, count-le}
 use Rattle.table.specs.declared.geometry.Geometry.{Geometry}
-use Rattle.table.specs.Geometry.{entryAt, Placed}
-use Rattle.table.specs.Words.{markForm, currentOf, keptOf}
+use Rattle.table.specs.Geometry.{entryAt, Placed, product}
+use Rattle.table.specs.Words.{markForm}
 use Rattle.table.specs.View.{Entry, View, view, live, entry-read}
-use Rattle.entries.specs.Frames.{setFrames, framesIn, frame-le}
+use Rattle.table.specs.Copies.{copyNumber}
+use Rattle.entries.specs.Frames.{setFrames, framesIn}
 use Rattle.entries.specs.Sound.{marksForm, nodeSound, nodesSound, node-dead}
 use Rattle.recovery.specs.declared.lost.Lost.{Lost}
 use Rattle.recovery.specs.declared.census.Turn.{Turn}
+use Rattle.recovery.specs.declared.census.Note.{Note}
 use Rattle.recovery.specs.declared.census.Found.{Found}
 use Rattle.recovery.specs.declared.census.Kinds.{Kinds}
 use Rattle.recovery.specs.Recover.{survivorsFormed}
 use Rattle.recovery.specs.Survivors.{survivors}
 use Rattle.recovery.specs.SurvivorsCode.{survivor-entry}
+use Rattle.recovery.specs.Sides.{copyOn}
 use Rattle.recovery.specs.Rows.{stateIn, Listed, reached, reached-start, reached-next, listed-turn, listed-end, row-room}
-use Rattle.recovery.specs.RowsSound.{RowTo, row-start, row-turn, row-small, row-all, row-sound}
-use Rattle.recovery.specs.Notes.{NotedTo, Notable, noted-start, noted-rooms, noted-same, noted-turn, noted-all, note-dead, note-live, equalTo, equal-dead, equal-live, number-blank, every-and, note-zeros, notes-fit}
+use Rattle.recovery.specs.RowsSound.{RowTo, row-start, row-turn, row-all, row-sound}
+use Rattle.recovery.specs.Notes.{numberWeight, stepOf, NotedTo, Notable, noted-start, noted-rooms, noted-same, noted-turn, noted-all, note-dead, note-live, equalTo, equal-dead, equal-live, number-blank, every-and, note-zeros, notes-fit}
 use Rattle.recovery.specs.Census.{hasOn, entryFrom, EntryNoted, RowReady, RowNoted, sideWeight, heldOn, Takable, CensusTo, NodeReady, NodeNoted, NodesNoted, KindsTold, TakenIn}
 
 -- ---- a row
@@ -37,9 +40,21 @@ pub record RowListed (g : Geometry) (n : ℕ) (t : List ℕ) (start : ℕ) (l : 
   pub placed : Placed g n 0 start
   pub notable : Notable g (view g t) n l count f s
 
--- the items before i are passed
-pub record RowPassed (forward : Bool) (v : View) (n i : ℕ) (s s′ f f′ : List ℕ) (forms : Bool) (frames held : ℕ) (agree : Bool) : Type 0 where
-  pub row : RowTo v n i forms frames
+-- the items before i are passed: their weights' sum by its digits
+pub record RowPassed (forward : Bool) (v : View) (n i : ℕ) (s s′ f f′ : List ℕ) (low : Bool) (sum : ℕ) (agree : Bool) : Type 0 where
+  pub frames : ℕ
+  pub first : ℕ
+  pub second : ℕ
+  pub out : ℕ
+  pub place : ℕ
+  pub held : ℕ
+  pub is : sum ≡ frames + 2 ^ 10 * first + 2 ^ 20 * second + 2 ^ 30 * out + 2 ^ 40 * place + 2 ^ 50 * held
+  pub first-few : first ≤ i
+  pub second-few : second ≤ i
+  pub out-few : out ≤ i
+  pub place-few : place ≤ i
+  pub held-few : held ≤ i
+  pub row : RowTo v n i (low && eqb out 0) frames
   pub noted : NotedTo forward v n f s i f′ s′ agree
   pub held-to : held ≡ count (λ b. hasOn forward (v .entry n b)) i
 
@@ -48,23 +63,29 @@ pub row-lists :
     → Listed (stateIn (view g t) n) (g .items) l′ count → RowListed g n t start l′ count s f
 row-lists g n t r a o = record { there = r .there; placed = a; notable = record { listed = o; firsts-room = r .firsts-room; tallies-room = r .tallies-room } }
 
-pub passed-start : (forward : Bool) (v : View) (n : ℕ) (l s f : List ℕ) → RowPassed forward v n (reached l 0) s s f f true 0 0 true
+pub passed-start : (forward : Bool) (v : View) (n : ℕ) (l s f : List ℕ) → RowPassed forward v n (reached l 0) s s f f true 0 true
 passed-start forward v n l s f = record {
+  frames = 0;
+  first = 0;
+  second = 0;
+  out = 0;
+  place = 0;
+  held = 0;
+  is = refl;
+  first-few = omega arith;
+  second-few = omega arith;
+  out-few = omega arith;
+  place-few = omega arith;
+  held-few = omega arith;
   row = row-start v n l;
   noted = noted-start forward v n l f s;
   held-to = rw (reached-start l) (count-none _);
 }
 
-frames-small : (w : ℕ) → framesIn w ≤ 2
-unfolding framesIn
-frames-small w = omega (arith, frame-le (currentOf w), frame-le (keptOf w))
-
-one-small : (b : Bool) → one b ≤ 1
-one-small true = omega arith
-one-small false = omega arith
-
-pub entry-small : {forward : Bool} {e : Entry} {j : ℕ} {s s′ f f′ : List ℕ} {r : Turn} → EntryNoted forward e j s s′ f f′ r → (r .frames ≤ 2) × (r .held ≤ 1)
-entry-small {forward} {e} m = (omega (arith, m .frames, frames-small (e .state)), omega (arith, m .held, one-small (hasOn forward e)))
+pub entry-small :
+    {forward : Bool} {step : ℕ} {e : Entry} {j : ℕ} {s s′ f f′ : List ℕ} {r : Note} → EntryNoted forward step e j s s′ f f′ r → r .weight < 2 ^ 52
+entry-small m = let w = m .weighed in
+    omega (arith, w .is, w .frames-few, w .first-few, w .second-few, w .out-few, w .place-few, w .has-few)
 
 -- the entry that the code reads is the view's
 entry-here :
@@ -82,78 +103,135 @@ module _ (forward : Bool) (v : View) (n : ℕ) where
       let z : hasOn forward (v .entry n j) ≡ false = rw (number-blank forward (v .entry n j) e) refl in
       omega (arith, h, count-next (λ b. hasOn forward (v .entry n b)) j, ap one z)
 
-module _ (g : Geometry) (forward : Bool) (n : ℕ) (t : List ℕ) {start : ℕ} {l : List ℕ} {many : ℕ} {s s′ f f′ : List ℕ} {forms : Bool} {frames held : ℕ} {agree : Bool}
-    (o : RowListed g n t start l many s f) (k : ℕ) (p : RowPassed forward (view g t) n (reached l k) s s′ f f′ forms frames held agree) where
-  pub passed-small : k < many → (frames ≤ 2 * g .items) × (held ≤ g .items)
-  passed-small q =
-      let a = o .notable .listed .ascends k q in
-      let b = o .notable .listed .below k q in
-      (row-small (view g t) n (o .notable .listed) k (p .row) q, omega (arith, p .held-to, count-le (reached l k) (λ b. hasOn forward (view g t .entry n b))))
+-- the tests of forms, in the order in which the code makes them
+forms-turn : (low here : Bool) (out more : ℕ) → ((low && eqb out 0) && (eqb more 0 && here)) ≡ ((low && here) && eqb (out + more) 0)
+forms-turn low here out more = elim (ℕ-discrete out 0) [
+  | yes z ↦ (let q : 0 + more ≡ more = omega arith in rw (z, q) (go low here (eqb more 0)))
+  | no z ↦ (let q : eqb (out + more) 0 ≡ false = ne-eqb _ 0 (λ (e : out + more ≡ 0). z (omega arith)) in rw (ne-eqb out 0 z, q) (none low here (eqb more 0)))
+]
+  where
+    go : (a b c : Bool) → ((a && true) && (c && b)) ≡ ((a && b) && c)
+    go true true true = refl
+    go true true false = refl
+    go true false true = refl
+    go true false false = refl
+    go false b c = refl
+
+    none : (a b c : Bool) → ((a && false) && (c && b)) ≡ ((a && b) && false)
+    none true true c = refl
+    none true false c = refl
+    none false b c = refl
+
+module _ (g : Geometry) (forward : Bool) (n : ℕ) (t : List ℕ) {start : ℕ} {l : List ℕ} {many : ℕ} {s s′ f f′ : List ℕ} {low : Bool} {sum : ℕ} {agree : Bool}
+    (o : RowListed g n t start l many s f) (k : ℕ) (p : RowPassed forward (view g t) n (reached l k) s s′ f f′ low sum agree) where
+  reached-few : g .items ≤ 256 → k ≤ many → reached l k ≤ 256
+  reached-few sized q = elim (ℕ-discrete k many) [
+    | yes z ↦ (let a = o .notable .listed .all in rw z (omega (arith, a)))
+    | no z ↦ (let a = o .notable .listed .ascends k (omega arith) in let b = o .notable .listed .below k (omega arith) in omega arith)
+  ]
+
+  frames-few : g .items ≤ 256 → k ≤ many → p .frames ≤ 512
+  frames-few sized q = omega (arith, p .row .few, reached-few sized q)
+
+  pub passed-small : g .items ≤ 256 → k ≤ many → sum < 2 ^ 62
+  passed-small sized q =
+      omega (arith, p .is, frames-few sized q, reached-few sized q, p .first-few, p .second-few, p .out-few, p .place-few, p .held-few)
 
   -- what the entry's turn needs
   pub passed-asks :
       {l₀ : List ℕ} → RowReady g n t l₀ s f → n < 256 → k < many
-      → (start + 3 * getD l k 0 + 2 < length t) × ((getD l k 0 < length s′) × ((getD l k 0 < length f′) × (getD s′ (getD l k 0) 0 < 2 ^ 32)))
+      → (start + 3 * getD l k 0 + 2 < length t) × ((getD l k 0 < length s′) × ((getD l k 0 < length f′) × ((getD s′ (getD l k 0) 0 < 2 ^ 62) × (stepOf n < 2 ^ 32))))
   passed-asks r h q =
       let b = o .notable .listed .below k q in
       let a = noted-rooms forward (view g t) n g (o .notable) k (p .noted) q in (
         omega (arith, row-room g t n (o .there) (o .placed) (r .long)),
-        (a .0, (a .1, omega (arith, noted-same forward (view g t) n g (o .notable) k (p .noted) q, r .few (getD l k 0) b))),
+        (a .0, (a .1, (omega (arith, noted-same forward (view g t) n g (o .notable) k (p .noted) q, r .few (getD l k 0) b), omega arith))),
       )
 
   -- after it
   pub passed-turn :
-      k < many → {s₁ f₁ : List ℕ} {r : Turn} → EntryNoted forward (entryFrom t (start + 3 * getD l k 0)) (getD l k 0) s′ s₁ f′ f₁ r
-      → RowPassed forward (view g t) n (reached l (k + 1)) s s₁ f f₁ (forms && r .forms) (frames + r .frames) (held + r .held) (agree && r .agree)
+      k < many → {s₁ f₁ : List ℕ} {r : Note} → EntryNoted forward (stepOf n) (entryFrom t (start + 3 * getD l k 0)) (getD l k 0) s′ s₁ f′ f₁ r
+      → RowPassed forward (view g t) n (reached l (k + 1)) s s₁ f f₁ (low && r .low) (sum + r .weight) (agree && r .agree)
   passed-turn q {s₁} {f₁} {r} m =
       let u = o .notable .listed in
       let j = getD l k 0 in
+      let w = m .weighed in
       let z = entry-here g n t j (o .there) (u .below k q) (o .placed) in
       let e : stateIn (view g t) n j ≡ entryFrom t (start + 3 * j) .state = ap (λ (x : Entry). x .state) z in
+      let up : reached l k + 1 ≤ reached l (k + 1) = omega (arith, u .ascends k q, reached-next l k) in
       record {
-        row = row-turn (view g t) n u k (p .row) q (sym e) (m .forms) (m .frames) (entry-small m .0);
+        frames = p .frames + framesIn (entryFrom t (start + 3 * j) .state);
+        first = p .first + w .first;
+        second = p .second + w .second;
+        out = p .out + w .out;
+        place = p .place + w .place;
+        held = p .held + w .has;
+        is = omega (arith, p .is, w .is);
+        first-few = omega (arith, p .first-few, w .first-few);
+        second-few = omega (arith, p .second-few, w .second-few);
+        out-few = omega (arith, p .out-few, w .out-few);
+        place-few = omega (arith, p .place-few, w .place-few);
+        held-few = omega (arith, p .held-few, w .has-few);
+        row = subst (λ (b : Bool). RowTo (view g t) n (reached l (k + 1)) b (p .frames + framesIn (entryFrom t (start + 3 * j) .state)))
+            (ap (λ (b : Bool). (low && eqb (p .out) 0) && (eqb (w .out) 0 && b)) (sym (m .low)) ∙ forms-turn low (r .low) (p .out) (w .out))
+            (row-turn (view g t) n u k (p .row) q (sym e) (sym (w .form)) refl (w .frames-few));
         noted = rw (m .tallies, m .firsts)
             (noted-turn forward (view g t) n g (o .notable) k (p .noted) q (rw z refl) (rw z refl) (m .agree ∙ rw z refl));
         held-to = rw (reached-next l k)
             (omega (
               arith,
-              listed-turn (λ i. held ≡ count (λ b. hasOn forward (view g t .entry n b)) i) (stateIn (view g t) n) (held-blank forward (view g t) n) u k q (p .held-to),
+              listed-turn (λ i. p .held ≡ count (λ b. hasOn forward (view g t .entry n b)) i) (stateIn (view g t) n) (held-blank forward (view g t) n) u k q (p .held-to),
               count-next (λ b. hasOn forward (view g t .entry n b)) j,
-              m .held,
+              w .held (entryFrom t (start + 3 * j)) refl,
               ap (λ x. one (hasOn forward x)) z,
             ));
       }
 
   pub passed-all :
-      k ≤ many → many ≤ k → {l₀ : List ℕ} → length l ≡ length l₀
-      → RowNoted g forward (view g t) n l₀ l s s′ f f′ (record { forms = forms; frames = frames; held = held; agree = agree })
-  passed-all a b z = record {
-    row = row-all (view g t) n (o .notable .listed) k (p .row) a b;
-    noted = noted-all forward (view g t) n g (o .notable) k (p .noted) a b;
-    held = listed-end (λ i. held ≡ count (λ b. hasOn forward (view g t .entry n b)) i) (stateIn (view g t) n) (held-blank forward (view g t) n) (o .notable .listed) k a b (p .held-to);
-    size = z;
-  }
+      g .items ≤ 256 → k ≤ many → many ≤ k → {l₀ : List ℕ} → length l ≡ length l₀
+      → RowNoted g forward (view g t) n l₀ l s s′ f f′
+      (record { forms = low && eqb (sum / 2 ^ 30 % 1024) 0; frames = sum % 1024; held = sum / 2 ^ 50; agree = agree })
+  passed-all sized a b z =
+      let c = reached-few sized a in
+      let d = frames-few sized a in
+      let frames-digit : sum % 1024 ≡ p .frames = omega (arith, p .is) in
+      let above : sum / 2 ^ 30 ≡ p .out + 2 ^ 10 * p .place + 2 ^ 20 * p .held = omega (arith, p .is, p .first-few, p .second-few) in
+      let out-digit : sum / 2 ^ 30 % 1024 ≡ p .out = rw above (omega (arith, p .out-few)) in
+      let held-digit : sum / 2 ^ 50 ≡ p .held = omega (arith, p .is, p .first-few, p .second-few, p .out-few, p .place-few) in
+      record {
+        row = rw (frames-digit, out-digit) (row-all (view g t) n (o .notable .listed) k (p .row) a b);
+        noted = noted-all forward (view g t) n g (o .notable) k (p .noted) a b;
+        held = held-digit
+            ∙ listed-end (λ i. p .held ≡ count (λ b. hasOn forward (view g t .entry n b)) i) (stateIn (view g t) n) (held-blank forward (view g t) n) (o .notable .listed) k a b (p .held-to);
+        size = z;
+      }
 
 -- ---- a node
 
-weight-small : (forward : Bool) (w : View) (b n : ℕ) → sideWeight forward w b n ≤ 4096
+weight-small : (forward : Bool) (w : View) (b n : ℕ) → n < 256 → sideWeight forward w b n ≤ 2 ^ 40
 unfolding sideWeight
-weight-small forward w b n = by-cases (live w n) (λ e. rw e (omega arith)) (λ e. rw e (omega arith))
+weight-small forward w b n h = by-cases (live w n)
+    (λ e. let k = copyNumber (copyOn forward (w .entry n b)) in
+    let few : numberWeight k ≤ 1025 = omega arith in
+    let near : stepOf n ≤ 2 ^ 29 = omega arith in
+    rw e (omega (arith, product 1025 (2 ^ 29) few near)))
+    (λ e. rw e (omega arith))
 
-tally-le : (forward : Bool) (w : View) (b n : ℕ) → sum (sideWeight forward w b) n ≤ 4096 * n
+tally-le : (forward : Bool) (w : View) (b n : ℕ) → n ≤ 256 → sum (sideWeight forward w b) n ≤ 2 ^ 40 * n
 unfolding sum
-tally-le forward w b zero = omega arith
-tally-le forward w b (suc n) = omega (arith, tally-le forward w b n, weight-small forward w b n)
+tally-le forward w b zero h = omega arith
+tally-le forward w b (suc n) h = omega (arith, tally-le forward w b n (omega arith), weight-small forward w b n (omega arith))
 
 pub row-ready :
-    (g : Geometry) (forward : Bool) (w : View) (n : ℕ) {t l s f u : List ℕ} → NodeReady g forward w n t l s f u → RowReady g n t l s f
-row-ready g forward w n r = record {
+    (g : Geometry) (forward : Bool) (w : View) (n : ℕ) {t l s f u : List ℕ} → n < 256 → NodeReady g forward w n t l s f u → RowReady g n t l s f
+row-ready g forward w n h r = record {
   there = r .there;
   long = r .long;
   list-room = r .list-room;
   tallies-room = r .before .noted .tallies-room;
   firsts-room = r .before .noted .firsts-room;
-  few = λ j l. omega (arith, r .before .tally j l, tally-le forward w j n);
+  sized = r .sized;
+  few = λ j l. omega (arith, r .before .tally j l, tally-le forward w j n (omega arith));
 }
 
 module _ (g : Geometry) (forward : Bool) (lost : Lost) (v : View) (n : ℕ) {mark : ℕ} {form : Bool} (h : mark ≡ survivors lost v .mark n) (m : form ≡ markForm mark)

@@ -1,6 +1,6 @@
 -- What the census tells of the survivors before they roll holds of them rolled: the tallies are those of their Shared-CKs, each recovery copy takes one
 -- frame, and where no item has two of one number numbering stores nothing.
-use Prim.Native.Nat.{ℕ, zero, suc, _*_, _/_, _%_, _<_, _+_}
+use Prim.Native.Nat.{ℕ, zero, suc, _*_, _/_, _%_, _^_, _<_, _+_}
 use mathlib.Core.Path.{_≡_, refl, sym, ap, _∙_}
 use mathlib.Core.Bool.{Bool, true, not}
 use mathlib.Core.List.{List, [], map}
@@ -27,8 +27,8 @@ use Rattle.checkpoints.specs.LivePass.{AllPassed, liveEach, entries-via}
 use Rattle.recovery.specs.Sides.{copyOn}
 use Rattle.recovery.specs.Rolling.{rollChange}
 use Rattle.recovery.specs.Numbering.{numberStores}
-use Rattle.recovery.specs.Notes.{numberWeight}
-use Rattle.recovery.specs.Tallies.{tallyOf, Tallied, plain, plain-nothing}
+use Rattle.recovery.specs.Notes.{numberWeight, stepOf}
+use Rattle.recovery.specs.Tallies.{copyWeight, nodesOf, tallyOf, Tallied, plain, plain-nothing}
 use Rattle.recovery.specs.NumberingCode.{Unkept}
 use Rattle.recovery.specs.Census.{hasOn, sideWeight, heldOn}
 use Rattle.recovery.specs.RollingCode.{runs-empty}
@@ -39,10 +39,15 @@ use Rattle.recovery.specs.PlainSides.{plain-number}
 use Rattle.recovery.specs.RollEntry.{SafeOn, Rolled, roll-steps}
 use Rattle.recovery.specs.StagedVia.{via-end}
 
-sum-counts : (n : ℕ) (p q : ℕ → Bool) (f : ℕ → ℕ) → ((i : ℕ) → i < n → f i ≡ one (p i) + 1024 * one (q i)) → sum f n ≡ count p n + 1024 * count q n
+sum-counts :
+    (n : ℕ) (p q : ℕ → Bool) (f : ℕ → ℕ) → ((i : ℕ) → i < n → f i ≡ (one (p i) + 1024 * one (q i)) * stepOf i)
+    → sum f n ≡ count p n + 1024 * count q n + 2 ^ 20 * sum (λ i. (one (p i) + 1024 * one (q i)) * i) n
 unfolding sum count
 sum-counts zero p q f h = refl
-sum-counts (suc n) p q f h = omega (arith, sum-counts n p q f (λ i l. h i (omega arith)), h n (omega arith))
+sum-counts (suc n) p q f h = omega (arith, sum-counts n p q f (λ i l. h i (omega arith)), h n (omega arith), parts (one (p n)) (one (q n)) n)
+  where
+    parts : (a b i : ℕ) → (a + 1024 * b) * stepOf i ≡ a + 1024 * b + 2 ^ 20 * ((a + 1024 * b) * i)
+    parts a b i = omega arith
 
 -- ---- a plain entry, by the number of its copy
 
@@ -85,14 +90,14 @@ module _ (g : Geometry) (forward : Bool) (w : View) (forms : (n b : ℕ) → Liv
     rolled-number : checkpointOf (current (rolled .entry n b)) ≡ copyNumber (copyOn forward (w .entry n b))
     rolled-number = sym (plain-number _ (rolled .entry n b) rolled-plain forward) ∙ ap copyNumber (ended .0 .entries n b l h .copy)
 
-  rolled-weight : (n b : ℕ) → n < g .nodes → b < g .items → sideWeight forward w b n ≡ one (has rolled b 4 n) + 1024 * one (has rolled b 5 n)
+  rolled-weight : (n b : ℕ) → n < g .nodes → b < g .items → sideWeight forward w b n ≡ copyWeight rolled b n * stepOf n
   unfolding sideWeight
   rolled-weight n b k h = by-cases (live w n)
-      (λ a. rw (rolled-live n, a) (plain-weight (rolled .entry n b) (rolled-number n b (test-live g w n k a) h)))
-      (λ a. rw (rolled-live n, a) refl)
+      (λ a. rw (rolled-live n, a) (ap (λ x. x * stepOf n) (plain-weight (rolled .entry n b) (rolled-number n b (test-live g w n k a) h))))
+      (λ a. let z : 0 ≡ 0 * stepOf n = omega arith in rw (rolled-live n, a) z)
 
   pub rolled-tallied : (s : List ℕ) → ((j : ℕ) → j < g .items → getD s j 0 ≡ sum (sideWeight forward w j) (g .nodes)) → Tallied g rolled s
-  unfolding tallyOf
+  unfolding tallyOf nodesOf
   rolled-tallied s tally j h = tally j h ∙ sum-counts (g .nodes) (has rolled j 4) (has rolled j 5) (sideWeight forward w j) (λ n k. rolled-weight n j k h)
 
   pub rolled-unkept : Unkept g rolled

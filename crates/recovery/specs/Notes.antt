@@ -1,5 +1,5 @@
 -- The recovery copies of each item, noted by rows: the first value, and a tally, which is 0 while there is none.
-use Prim.Native.Nat.{ℕ, zero, suc, _+_, _*_, _/_, _%_, _≤_, _<_}
+use Prim.Native.Nat.{ℕ, zero, suc, _+_, _*_, _/_, _%_, _^_, _≤_, _<_}
 use mathlib.Core.Path.{_≡_, refl, sym, ap, ap₂, _∙_}
 use mathlib.Core.Bool.{Bool, true, false, cond, not, _&&_, _||_}
 use mathlib.Core.List.{List}
@@ -32,6 +32,10 @@ firstMet has tally first x = cond has (cond (eqb tally 0) x first) first
 abbrev pub numberWeight : ℕ → ℕ
 numberWeight k = k % 2 + 1024 * (k / 2 % 2)
 
+-- what node n's copies are taken times, so that the tally of a single copy tells its holder
+abbrev pub stepOf : ℕ → ℕ
+stepOf n = 1 + 2 ^ 20 * n
+
 abbrev pub agreesMet : Bool → ℕ → ℕ → ℕ → Bool
 agreesMet has tally first x = not has || (eqb tally 0 || eqb x first)
 
@@ -44,7 +48,7 @@ abbrev pub valueAt : Bool → View → ℕ → ℕ → ℕ
 valueAt forward v n j = copyValue (copyOn forward (v .entry n j))
 
 abbrev pub weightAt : Bool → View → ℕ → ℕ → ℕ
-weightAt forward v n j = numberWeight (copyNumber (copyOn forward (v .entry n j)))
+weightAt forward v n j = numberWeight (copyNumber (copyOn forward (v .entry n j))) * stepOf n
 
 -- a state word 0 has none
 pub number-blank : (forward : Bool) (e : Entry) → e .state ≡ 0 → copyNumber (copyOn forward e) ≡ 0
@@ -61,7 +65,7 @@ unfolding backBy
 by-small number k x y h l =
     by-cases (eqb number 0) (λ p. by-cases (eqb k 0) (λ q. rw (p, q) (omega arith)) (λ q. rw (p, q) l)) (λ p. rw p h)
 
-number-small : (forward : Bool) (e : Entry) → copyNumber (copyOn forward e) < 4
+pub number-small : (forward : Bool) (e : Entry) → copyNumber (copyOn forward e) < 4
 number-small true e = by-small (checkpointOf (changeOf (current e) RollForward)) 0 (e .value) (e .keptValue) (checkpoint-small (changeOf (current e) RollForward)) (omega arith)
 number-small false e = by-small (checkpointOf (current e)) (kept e) (e .value) (e .keptValue) (checkpoint-small (current e)) (omega arith)
 
@@ -91,7 +95,7 @@ module _ (forward : Bool) (v : View) (n : ℕ) {firsts tallies firsts′ tallies
       let z = number-blank forward (v .entry n j) e in
       record {
         firsts-row = rowed-blank _ j (r .firsts-row) (rw z refl);
-        tallies-row = rowed-blank _ j (r .tallies-row) (omega (arith, ap numberWeight z));
+        tallies-row = rowed-blank _ j (r .tallies-row) (omega (arith, ap (λ k. numberWeight k * stepOf n) z));
         agrees = sym (and-true agree) ∙ every-next _ j (r .agrees) (rw z refl);
       }
 
@@ -181,13 +185,17 @@ module _ (has : Bool) (s : Values) (x tally : ℕ) {first : ℕ} (e : first ≡ 
       (λ q. let z : s .seen ≡ true = sym f ∙ rw q refl in rw (p, q, z, e) refl))
       (λ p. rw p (and-true (s .equal)))
 
+step-some : (a n : ℕ) → 1 ≤ a → 1 ≤ a * stepOf n
+step-some a n h = omega arith
+
 met-seen :
-    (number : ℕ) (s : Values) (x tally : ℕ) → number < 4 → not (eqb tally 0) ≡ s .seen
-    → not (eqb (tally + numberWeight number) 0) ≡ cond (not (eqb number 0)) (metOf s x) s .seen
-met-seen number s x tally h f =
+    (number n : ℕ) (s : Values) (x tally : ℕ) → number < 4 → not (eqb tally 0) ≡ s .seen
+    → not (eqb (tally + numberWeight number * stepOf n) 0) ≡ cond (not (eqb number 0)) (metOf s x) s .seen
+met-seen number n s x tally h f =
     by-cases (eqb number 0)
-    (λ p. let z : tally + numberWeight number ≡ tally = omega (arith, eqb-true number 0 p) in rw (p, z) f)
-    (λ p. rw (p, ne-eqb (tally + numberWeight number) 0 (λ (q : tally + numberWeight number ≡ 0). omega (arith, weight-some number h p))) (sym (met-some s x)))
+    (λ p. let z : tally + numberWeight number * stepOf n ≡ tally = omega (arith, ap (λ k. numberWeight k * stepOf n) (eqb-true number 0 p)) in rw (p, z) f)
+    (λ p. let some = step-some (numberWeight number) n (weight-some number h p) in
+    rw (p, ne-eqb (tally + numberWeight number * stepOf n) 0 (λ (q : tally + numberWeight number * stepOf n ≡ 0). omega (arith, some))) (sym (met-some s x)))
   where
     met-some : (s : Values) (x : ℕ) → metOf s x .seen ≡ true
     met-some s x = by-cases (s .seen) (λ q. rw q refl) (λ q. rw q refl)
@@ -214,7 +222,7 @@ module _ (g : Geometry) (forward : Bool) (lost : Lost) (v : View) (n : ℕ) {mar
             ∙ met-first (hasAt forward v n j) (copiesTo forward (survivors lost v) j n) (valueAt forward v n j) (getD tallies j 0) (r .first j k) (r .seen j k)
             ∙ ap (λ (s : Values). s .first) (sym (copies-live forward lost v j n h d));
         seen = λ j k. ap (λ x. not (eqb x 0)) (m .tallies-row .made j k)
-            ∙ met-seen (copyNumber (copyOn forward (v .entry n j))) (copiesTo forward (survivors lost v) j n) (valueAt forward v n j) (getD tallies j 0)
+            ∙ met-seen (copyNumber (copyOn forward (v .entry n j))) n (copiesTo forward (survivors lost v) j n) (valueAt forward v n j) (getD tallies j 0)
             (number-small forward (v .entry n j)) (r .seen j k)
             ∙ ap (λ (s : Values). s .seen) (sym (copies-live forward lost v j n h d));
         firsts-room = omega (arith, r .firsts-room, m .firsts-row .size);

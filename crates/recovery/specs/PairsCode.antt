@@ -20,7 +20,7 @@ use Rattle.recovery.specs.Numbering.{numberStores}
 use Rattle.recovery.specs.Partners.{partnersStores}
 use Rattle.recovery.specs.ClosingMarks.{largestNumber}
 use Rattle.recovery.specs.Recover.{survivorsFormed}
-use Rattle.recovery.specs.Tallies.{Tallied, plain, holders-told}
+use Rattle.recovery.specs.Tallies.{Tallied, plain, holders-told, holder-told}
 use Rattle.recovery.specs.NumberingCode.{Unkept, Numbering}
 use Rattle.recovery.specs.Followed.{Entered, stored-any, view-left, entered-within, survivors-entered}
 use Rattle.recovery.specs.PartnersCounts.{AgreesTo}
@@ -132,6 +132,7 @@ module _ (g : Geometry) {forward simple : Bool} (w : View) {tallies u : List ℕ
       record {
         skip = λ m. o .many (omega (arith, e, m));
         single = λ m. o .single (omega (arith, e, m));
+        holder = λ m. o .holder (omega (arith, e, m)) (holder-told g rolled b small (rolled-tallies b h) (omega (arith, e, m, o .some)));
       }
 
   rolled-nothing : simple ≡ true → numberStores g rolled ≡ []

@@ -124,12 +124,9 @@ pub after-entry :
     (g : Geometry) (t : List ℕ) (n b : ℕ) → HasEntry g t n b → (i : ℕ) → i < g .nodes → {h : ℕ} → h ≡ nodeAfter g n i → HasEntry g t h b
 after-entry g t n b e i l q = (rw q (after-below g n (e .0) i l), e .1)
 
--- ---- a node's copy, and whether it can take a partner
+-- ---- whether a node can take a partner
 
 module _ (lost : Lost) (v : View) (b n : ℕ) {mark : ℕ} (h : mark ≡ survivors lost v .mark n) where
-  pub copy-here : {state c : ℕ} → state ≡ v .entry n b .state → c ≡ currentOf state → (not (eqb mark 0) && not (eqb c 0)) ≡ copy (survivors lost v) b n
-  copy-here p q = rw (← h, survivor-entry lost v, q, p) refl
-
   module _ (g : Geometry) (s : List ℕ) where
     pub takes-dead : mark ≡ 0 → false ≡ takesBy g (survivors lost v) s b n
     unfolding takesBy
@@ -140,21 +137,6 @@ module _ (lost : Lost) (v : View) (b n : ℕ) {mark : ℕ} (h : mark ≡ survivo
         → (eqb c invalid && ltb u f) ≡ takesBy g (survivors lost v) s b n
     unfolding takesBy
     takes-live e p q r k = rw (← h, ne-eqb mark 0 e, survivor-entry lost v, q, p, r, k) refl
-
--- ---- the first copy of an item
-
-module _ (w : View) (b i : ℕ) (so : first (copy w b) i ≡ i) where
-  module _ {found : Bool} (q : found ≡ copy w b i) where
-    pub holder-here : (g : Geometry) → i < g .nodes → found ≡ true → i ≡ holderOf g w b
-    unfolding holderOf
-    holder-here g l e = sym (first-found (copy w b) i (g .nodes) so (sym q ∙ e) l)
-
-    pub holder-on : found ≡ false → first (copy w b) (i + 1) ≡ i + 1
-    holder-on e = first-turns (copy w b) i so (sym q ∙ e)
-
-  pub holder-none : (g : Geometry) → i ≤ g .nodes → g .nodes ≤ i → g .nodes ≡ holderOf g w b
-  unfolding holderOf
-  holder-none g k l = first-ends (copy w b) i (g .nodes) so k l
 
 -- ---- the search
 
@@ -275,9 +257,9 @@ holder-there g w b e =
       | no q ↦ omega arith
     ]
 
--- while anything is left of the limit the item has one copy; so far as nothing is left nothing is stored, whatever it has
+-- while anything is left of the limit the item has one copy, and its holder is told; so far as nothing is left nothing is stored, whatever it has
 module _ (g : Geometry) (lost : Lost) (b : ℕ) {left : ℕ} {t s : List ℕ}
-    (one : (left ≡ 0 → ⊥) → count (copy (survivors lost (view g t)) b) (g .nodes) ≡ 1) {h : ℕ} (q : h ≡ holderOf g (survivors lost (view g t)) b) where
+    (one : (left ≡ 0 → ⊥) → count (copy (survivors lost (view g t)) b) (g .nodes) ≡ 1) {h : ℕ} (q : (left ≡ 0 → ⊥) → h ≡ holderOf g (survivors lost (view g t)) b) where
   pub item-single :
       {left′ : ℕ} {t′ s′ : List ℕ} → Turned g lost (λ w. partnerFrom g w b h) left t t′ s s′ left′
       → Turned g lost (partnerStores g b) left t t′ s s′ left′
@@ -285,7 +267,7 @@ module _ (g : Geometry) (lost : Lost) (b : ℕ) {left : ℕ} {t s : List ℕ}
   item-single r = record {
     stores = elim (ℕ-discrete left 0) [
       | yes z ↦ (let r′ = rw z at (r .stores) in rw z (stored-any (partnerStores g b (survivors lost (view g t))) r′))
-      | no z ↦ rw (eq-eqb _ 1 (one z), ← q) (r .stores)
+      | no z ↦ rw (eq-eqb _ 1 (one z), ← q z) (r .stores)
     ];
     counts = r .counts;
     rest = r .rest;
@@ -296,7 +278,7 @@ module _ (g : Geometry) (lost : Lost) (b : ℕ) {left : ℕ} {t s : List ℕ}
   item-none l k = record {
     stores = elim (ℕ-discrete left 0) [
       | yes z ↦ rw z (stored-any (partnerStores g b (survivors lost (view g t))) (stored-none g 0 t))
-      | no z ↦ absurd (let m = holder-there g (survivors lost (view g t)) b (one z) in omega arith)
+      | no z ↦ absurd (let m = holder-there g (survivors lost (view g t)) b (one z) in omega (arith, q z))
     ];
     counts = k;
     rest = refl;

@@ -10,7 +10,7 @@ use lib.ListN.{getD}
 use borrow.Author.Tests.{lt-ltb, eqb-true}
 use Rattle.counting.specs.Tests.{and-both}
 use Rattle.counting.specs.Counting.{count, count-ext, one}
-use Rattle.counting.specs.First.{first, first-le}
+use Rattle.counting.specs.First.{first, first-le, first-ext}
 use Rattle.table.specs.declared.geometry.Geometry.{Geometry}
 use Rattle.table.specs.Geometry.{entryAt, markAt, entries-apart}
 use Rattle.table.specs.Stores.{Store, Change, stateTo, valueTo, keptTo, sizeStore, markStore, entryStore, Stored, placeOf, partOf, after-off, All, none, more, all-then}
@@ -23,7 +23,7 @@ use Rattle.recovery.specs.SurvivorsCode.{survivor-entry}
 use Rattle.recovery.specs.RollingCode.{survivor-marks}
 use Rattle.recovery.specs.Partners.{single, holderOf, takesAfter, partnerOf, partnerChanges, partnerFrom, partnerStores, staged}
 use Rattle.recovery.specs.PartnersCode.{Ready, Turned, holder-there, item-other, items-ready}
-use Rattle.recovery.specs.Tallies.{holdersBy}
+use Rattle.recovery.specs.Tallies.{holdersBy, holderBy}
 
 -- ---- the stores of the items before i
 
@@ -94,21 +94,22 @@ module _ (g : Geometry) (i : ℕ) {ss : List Store} {left left′ : ℕ} {t t′
   mark-stays n hn =
       mark-read g t n hn (sym (mark-read g t′ n hn refl) ∙ ap (λ u. getD u (markAt n) 0) (s .table) ∙ after-off g (markAt n) left t (mark-off g i n hn a))
 
-  copies-stay : (lost : Lost) (b : ℕ) → b < g .items → i ≤ b
-      → count (copy (survivors lost (view g t′)) b) (g .nodes) ≡ count (copy (survivors lost (view g t)) b) (g .nodes)
-  copies-stay lost b hb l = count-ext (g .nodes) _ _
-      (λ n hn. rw (survivor-marks lost (view g t) (view g t′) n (mark-stays n hn), survivor-entry lost (view g t′), survivor-entry lost (view g t), entry-stays n b hn hb l) refl)
+  copy-stays : (lost : Lost) (b : ℕ) → b < g .items → i ≤ b → (n : ℕ) → n < g .nodes → copy (survivors lost (view g t′)) b n ≡ copy (survivors lost (view g t)) b n
+  copy-stays lost b hb l n hn =
+      rw (survivor-marks lost (view g t) (view g t′) n (mark-stays n hn), survivor-entry lost (view g t′), survivor-entry lost (view g t), entry-stays n b hn hb l) refl
 
 -- ---- an item's turn
 
--- while anything is left of the limit: an item has one copy
-pub record Single (g : Geometry) (lost : Lost) (left : ℕ) (t : List ℕ) (b : ℕ) : Type 0 where
+-- while anything is left of the limit: an item has one copy, and this holder
+pub record Single (g : Geometry) (lost : Lost) (left : ℕ) (t : List ℕ) (b holder : ℕ) : Type 0 where
   pub one : (left ≡ 0 → ⊥) → count (copy (survivors lost (view g t)) b) (g .nodes) ≡ 1
+  pub is : (left ≡ 0 → ⊥) → holder ≡ holderOf g (survivors lost (view g t)) b
 
--- how the items stand by their tallies: with two holders and more an item has not one copy, else it has one
+-- how the items stand by their tallies: with two holders and more an item has not one copy, else it has one, and the tally tells its holder
 pub record Stands (g : Geometry) (w : View) (b tally : ℕ) : Type 0 where
   pub skip : 1 < holdersBy tally → count (copy w b) (g .nodes) ≡ 1 → ⊥
   pub single : holdersBy tally ≤ 1 → count (copy w b) (g .nodes) ≡ 1
+  pub holder : holdersBy tally ≤ 1 → holderBy tally ≡ holderOf g w b
 
 abbrev pub Settled : Geometry → View → List ℕ → Type 0
 Settled g w s = (b : ℕ) → b < g .items → Stands g w b (getD s b 0)
@@ -127,20 +128,31 @@ pub turn-skipped :
     → Turned g lost (partnerStores g b) left t t s s left
 turn-skipped g lost {left} {b} {tally} {t} {s} p h = item-other g lost b (λ z. p .stands z .skip h) (p .ready .counts)
 
-pub turn-single : (g : Geometry) (lost : Lost) {left b tally : ℕ} {t s : List ℕ} → Passable g lost left t s b tally → holdersBy tally ≤ 1 → Single g lost left t b
-turn-single g lost p h = record { one = λ z. p .stands z .single h }
+pub turn-single : (g : Geometry) (lost : Lost) {left b tally : ℕ} {t s : List ℕ} → Passable g lost left t s b tally → holdersBy tally ≤ 1 → Single g lost left t b (holderBy tally)
+turn-single g lost p h = record { one = λ z. p .stands z .single h; is = λ z. p .stands z .holder h }
 
 pub turn-ready :
     (g : Geometry) (lost : Lost) (i : ℕ) {left left₁ tally : ℕ} {t t₁ s s₁ tallies : List ℕ} → Ready g lost left t s → i < g .items
     → Settles g lost left t tallies → tally ≡ getD tallies i 0
     → Turned g lost (staged (partnerStores g) i) left t t₁ s s₁ left₁ → Passable g lost left₁ t₁ s₁ i tally
+unfolding holderOf
 turn-ready g lost i {left} {left₁} {tally} {t} {t₁} k h u e r = record {
   ready = items-ready g lost i r k;
   there = h;
   stands = λ z.
       let o = u .settled (λ q. z (omega (arith, r .stores .rest))) i h in
-      record { skip = λ p q. o .skip (rw e at p) (sym stays ∙ q); single = λ p. stays ∙ o .single (rw e at p) };
+      record {
+        skip = λ p q. o .skip (rw e at p) (sym stays ∙ q);
+        single = λ p. stays ∙ o .single (rw e at p);
+        holder = λ p. ap holderBy e ∙ o .holder (rw e at p) ∙ sym holder-stays;
+      };
 }
   where
+    each : (n : ℕ) → n < g .nodes → copy (survivors lost (view g t₁)) i n ≡ copy (survivors lost (view g t)) i n
+    each = copy-stays g i (before-staged g i i (survivors lost (view g t)) (omega arith) (omega arith)) (r .stores) lost i h (omega arith)
+
     stays : count (copy (survivors lost (view g t₁)) i) (g .nodes) ≡ count (copy (survivors lost (view g t)) i) (g .nodes)
-    stays = copies-stay g i (before-staged g i i (survivors lost (view g t)) (omega arith) (omega arith)) (r .stores) lost i h (omega arith)
+    stays = count-ext (g .nodes) _ _ each
+
+    holder-stays : holderOf g (survivors lost (view g t₁)) i ≡ holderOf g (survivors lost (view g t)) i
+    holder-stays = first-ext (g .nodes) _ _ each

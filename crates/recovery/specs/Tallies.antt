@@ -1,8 +1,9 @@
--- The tally of an item: how many survivors hold it as Shared-CK1, and 1024 times how many as Shared-CK2. An item with at most one holder of each number,
--- with nothing kept, has no copy that numbering changes.
-use Prim.Native.Nat.{ℕ, _+_, _*_, _/_, _%_, _<_}
-use mathlib.Core.Path.{_≡_, refl}
-use mathlib.Core.Bool.{Bool, true, _&&_}
+-- The tally of an item: how many survivors hold it as Shared-CK1, 1024 times how many as Shared-CK2, and 2^20 times the holders' node numbers, those of
+-- Shared-CK2 times 1024. An item with at most one holder of each number, with nothing kept, has no copy that numbering changes; of a single copy the tally
+-- tells the holder.
+use Prim.Native.Nat.{ℕ, zero, suc, _+_, _*_, _/_, _%_, _^_, _<_}
+use mathlib.Core.Path.{_≡_, refl, sym, ap, _∙_}
+use mathlib.Core.Bool.{Bool, true, false, _&&_, _||_}
 use mathlib.Core.List.{List, []}
 use native.Mathlib.Omega.{arith}
 use native.Mathlib.Decide.{ℕ-discrete}
@@ -10,7 +11,7 @@ use lib.Dec.{ltb}
 use lib.ListN.{getD}
 use borrow.Author.Tests.{eq-eqb, ne-eqb, ltb-true}
 use Rattle.counting.specs.Tests.{both, by-cases}
-use Rattle.counting.specs.Counting.{count, count-le}
+use Rattle.counting.specs.Counting.{one, sum, count, count-le, none-counted, only}
 use Rattle.counting.specs.Ranks.{count-above}
 use Rattle.table.specs.declared.geometry.Geometry.{Geometry}
 use Rattle.table.specs.View.{View, live, current, kept}
@@ -19,8 +20,15 @@ use Rattle.entries.specs.Kinds.{has-at}
 use Rattle.recovery.specs.Rolling.{sharedCK, settled}
 use Rattle.recovery.specs.Numbering.{holders, numberAfter, numberAt, numberChange}
 
+-- what node n's copy adds
+abbrev pub copyWeight : View → ℕ → ℕ → ℕ
+copyWeight w b n = one (has w b 4 n) + 1024 * one (has w b 5 n)
+
+unfoldable pub nodesOf : Geometry → View → ℕ → ℕ
+nodesOf g w b = sum (λ n. copyWeight w b n * n) (g .nodes)
+
 unfoldable pub tallyOf : Geometry → View → ℕ → ℕ
-tallyOf g w b = count (has w b 4) (g .nodes) + 1024 * count (has w b 5) (g .nodes)
+tallyOf g w b = count (has w b 4) (g .nodes) + 1024 * count (has w b 5) (g .nodes) + 2 ^ 20 * nodesOf g w b
 
 -- how many hold it
 abbrev pub holdersOf : Geometry → View → ℕ → ℕ
@@ -32,23 +40,90 @@ Tallied g w s = (b : ℕ) → b < g .items → getD s b 0 ≡ tallyOf g w b
 
 -- by its tally an item has at most one holder of each number
 abbrev pub plain : ℕ → Bool
-plain tally = ltb (tally % 1024) 2 && ltb (tally / 1024) 2
+plain tally = ltb (tally % 1024) 2 && ltb (tally / 1024 % 1024) 2
 
--- how many hold it, by its tally
+-- how many hold it, by its tally, and the holder of a single copy
 abbrev pub holdersBy : ℕ → ℕ
-holdersBy tally = tally % 1024 + tally / 1024
+holdersBy tally = tally % 1024 + tally / 1024 % 1024
+
+abbrev pub holderBy : ℕ → ℕ
+holderBy tally = tally / 2 ^ 20 % 1024 + tally / 2 ^ 30
+
+-- a sum of which all but one are 0
+sum-only : (n : ℕ) (f : ℕ → ℕ) (m : ℕ) → m < n → ((k : ℕ) → k < n → (k ≡ m → ⊥) → f k ≡ 0) → sum f n ≡ f m
+unfolding sum
+sum-only zero f m l h = absurd (omega arith)
+sum-only (suc n) f m l h = elim (ℕ-discrete m n) [
+  | yes e ↦ (let z = sum-zero n (λ k q. h k (omega arith) (λ (d : k ≡ m). omega arith)) in rw e (omega (arith, z)))
+  | no e ↦ omega (arith, sum-only n f m (omega arith) (λ k q. h k (omega arith)), h n (omega arith) (λ (d : n ≡ m). e (sym d)))
+]
+  where
+    sum-zero : (n : ℕ) → ((k : ℕ) → k < n → f k ≡ 0) → sum f n ≡ 0
+    sum-zero zero h = refl
+    sum-zero (suc n) h = omega (arith, sum-zero n (λ k q. h k (omega arith)), h n (omega arith))
+
+-- item b's only copy: node m's, where the others have none
+only-nodes :
+    (g : Geometry) (w : View) (b m : ℕ) → m < g .nodes
+    → ((k : ℕ) → k < g .nodes → (k ≡ m → ⊥) → (has w b 4 k ≡ false) × (has w b 5 k ≡ false)) → nodesOf g w b ≡ copyWeight w b m * m
+unfolding nodesOf
+only-nodes g w b m l h = sum-only (g .nodes) (λ n. copyWeight w b n * n) m l (λ k q d. let (p, r) = h k q d in let z : 0 * k ≡ 0 = omega arith in rw (p, r) z)
+
+-- the tally of a single copy
+first-holder : (m : ℕ) → m < 256 → holderBy (1 + 2 ^ 20 * m) ≡ m
+first-holder m h =
+    let a : (1 + 2 ^ 20 * m) / 2 ^ 20 ≡ m = omega arith in
+    let b : (1 + 2 ^ 20 * m) / 2 ^ 30 ≡ 0 = omega arith in
+    rw (a, b) (omega arith)
+
+second-holder : (m : ℕ) → m < 256 → holderBy (1024 + 2 ^ 30 * m) ≡ m
+second-holder m h =
+    let a : (1024 + 2 ^ 30 * m) / 2 ^ 20 ≡ 1024 * m = omega arith in
+    let b : (1024 + 2 ^ 30 * m) / 2 ^ 30 ≡ m = omega arith in
+    rw (a, b) (omega arith)
+
+-- a single holder, as the tally tells it
+pub record Holder (g : Geometry) (w : View) (b holder : ℕ) : Type 0 where
+  pub within : holder < g .nodes
+  pub held : (has w b 4 holder || has w b 5 holder) ≡ true
 
 module _ (g : Geometry) (w : View) (b : ℕ) {tally : ℕ} (small : g .nodes < 256) (e : tally ≡ tallyOf g w b) where
   firsts-told : tally % 1024 ≡ count (has w b 4) (g .nodes)
   unfolding tallyOf
   firsts-told = omega (arith, e, count-le (g .nodes) (has w b 4), count-le (g .nodes) (has w b 5))
 
-  seconds-told : tally / 1024 ≡ count (has w b 5) (g .nodes)
+  seconds-told : tally / 1024 % 1024 ≡ count (has w b 5) (g .nodes)
   unfolding tallyOf
   seconds-told = omega (arith, e, count-le (g .nodes) (has w b 4), count-le (g .nodes) (has w b 5))
 
   pub holders-told : holdersBy tally ≡ holdersOf g w b
   holders-told = omega (arith, firsts-told, seconds-told)
+
+  pub holder-told : holdersOf g w b ≡ 1 → Holder g w b (holderBy tally)
+  unfolding tallyOf
+  holder-told h = elim (ℕ-discrete (count (has w b 5) (g .nodes)) 0) [
+    | yes z ↦
+        (let (m, o) = only (g .nodes) (has w b 4) (omega arith) in
+        let none = none-counted (g .nodes) (has w b 5) z in
+        let q = only-nodes g w b m (o .within) (λ k l d. (other (has w b 4 k) (λ t. d (o .alone k l t)), none k l)) in
+        let q′ : nodesOf g w b ≡ m = q ∙ rw (o .holds, none m (o .within)) (let f : 1 * m ≡ m = omega arith in f) in
+        let v : tally ≡ 1 + 2 ^ 20 * m = omega (arith, e, q′, h, z) in
+        told m (o .within) (ap holderBy v ∙ first-holder m (omega (arith, o .within))) (rw (o .holds) refl))
+    | no z ↦
+        (let (m, o) = only (g .nodes) (has w b 5) (omega arith) in
+        let none = none-counted (g .nodes) (has w b 4) (omega arith) in
+        let q = only-nodes g w b m (o .within) (λ k l d. (none k l, other (has w b 5 k) (λ t. d (o .alone k l t)))) in
+        let q′ : nodesOf g w b ≡ 1024 * m = q ∙ rw (o .holds, none m (o .within)) (let f : 1024 * m ≡ 1024 * m = refl in f) in
+        let v : tally ≡ 1024 + 2 ^ 30 * m = omega (arith, e, q′, h) in
+        told m (o .within) (ap holderBy v ∙ second-holder m (omega (arith, o .within))) (rw (o .holds, none m (o .within)) refl))
+  ]
+    where
+      other : (p : Bool) → (p ≡ true → ⊥) → p ≡ false
+      other true d = absurd (d refl)
+      other false d = refl
+
+      told : (m : ℕ) → m < g .nodes → holderBy tally ≡ m → (has w b 4 m || has w b 5 m) ≡ true → Holder g w b (holderBy tally)
+      told m l q k = rw q (record { within = l; held = k })
 
   -- the only holder of a number, with nothing kept, stays
   module _ (n number : ℕ) (l : n < g .nodes) (a : live w n ≡ true) (c : current (w .entry n b) ≡ sharedCK number) (k : kept (w .entry n b) ≡ 0)
@@ -74,11 +149,11 @@ module _ (g : Geometry) (w : View) (b : ℕ) {tally : ℕ} (small : g .nodes < 2
       ])
       (λ a. rw a refl)
     where
-      tests : (ltb (tally % 1024) 2 ≡ true) × (ltb (tally / 1024) 2 ≡ true)
+      tests : (ltb (tally % 1024) 2 ≡ true) × (ltb (tally / 1024 % 1024) 2 ≡ true)
       tests = both (ltb (tally % 1024) 2) h
 
       first-few : count (has w b 4) (g .nodes) < 2
       first-few = omega (arith, firsts-told, ltb-true (tally % 1024) 2 (tests .0))
 
       second-few : count (has w b 5) (g .nodes) < 2
-      second-few = omega (arith, seconds-told, ltb-true (tally / 1024) 2 (tests .1))
+      second-few = omega (arith, seconds-told, ltb-true (tally / 1024 % 1024) 2 (tests .1))

@@ -1,9 +1,12 @@
 // The census of the survivors: one pass over their occupied entries for all that a recovery has to know of them before its first store.
+ghost use mathlib.Core.Path.{_≡_};
+ghost use mathlib.Core.Bool.{true, false, cond};
 ghost use Prim.Native.Nat.{_+_, _^_, _<_, _≤_};
 ghost use lib.ListN.{length, getD};
 ghost use Rattle.table.specs.View.{view};
+ghost use Rattle.entries.specs.Row.{topOf};
 ghost use Rattle.recovery.specs.Survivors.{survivors};
-ghost use Rattle.recovery.specs.Census.{Trait, entryFrom, EntryNoted, RowReady, RowNoted, NodeReady, NodeNoted, NodesNoted, KindsTold, Takable, TakenIn};
+ghost use Rattle.recovery.specs.Census.{sideBits, entryFrom, EntryNoted, RowReady, RowNoted, NodeReady, NodeNoted, NodesNoted, KindsTold, Takable, TakenIn};
 use crate::lost::Lost;
 use crate::rows;
 use crate::survivors;
@@ -11,12 +14,19 @@ use entries::frames;
 use table::geometry::Geometry;
 use table::words;
 
-// What an entry tells, or a row: whether the state words have their form, the frames in use, how many recovery copies of the side are there, and
+// What a row tells: whether the state words have their form, the frames in use, how many recovery copies of the side are there, and
 // whether each has the value of the first of its item.
 pub(crate) struct Turn {
     pub(crate) forms: bool,
     pub(crate) frames: usize,
     pub(crate) held: u64,
+    pub(crate) agree: bool,
+}
+
+// What an entry tells: its weight, whether no other bits are set, and whether a recovery copy of the side has the value of the first of its item.
+pub(crate) struct Note {
+    pub(crate) weight: u64,
+    pub(crate) low: bool,
     pub(crate) agree: bool,
 }
 
@@ -28,52 +38,203 @@ pub(crate) struct Census {
     pub(crate) plain: bool,
 }
 
-// A character for the six top bits of a state word, the current and the kept code, on a side. Its bits: 0 and 1 the frames in use, 2 and 3 the number of
-// the recovery copy, 4 whether it is the kept one, 5 whether the codes are out of form.
-fn trait_of(state: u64, forward: bool) -> u8
-    ensures { λ r. ⌜ Trait forward state r ⌝ }
+// The weight of an entry on the way forward, by the six top bits of its state word, the current and the kept code. Its digits, ten bits each: the frames
+// in use; whether the recovery copy has number 1; number 2; whether the codes are out of form; whether it is the kept copy; whether there is one.
+fn forward_weight(top: u8) -> u64
+    requires { ⌜ top < 64 ⌝ }
+    ensures { λ r. ⌜ r ≡ sideBits true top ⌝ }
 {
-    let top = (state / 0x400_0000_0000_0000) as usize;
-    let on = b"@AAaABBbABBbABBbEfffIjjjEFFfIJJjabbbabbbabbbabbbefffijjjefffijjj";
-    let back = b"@UY=AVZ>AVZ>AVZ>EfffIjjjAVZ>AVZ>a6:>a6:>a6:>a6:>a6:>a6:>a6:>a6:>";
-    if forward {
-        return on[top] % 64;
+    match top {
+        0 => 0,
+        1 => 0x1,
+        2 => 0x1,
+        3 => 0x4000_0001,
+        4 => 0x1,
+        5 => 0x2,
+        6 => 0x2,
+        7 => 0x4000_0002,
+        8 => 0x1,
+        9 => 0x2,
+        10 => 0x2,
+        11 => 0x4000_0002,
+        12 => 0x1,
+        13 => 0x2,
+        14 => 0x2,
+        15 => 0x4000_0002,
+        16 => 0x4_0000_0000_0401,
+        17 => 0x4_0000_4000_0402,
+        18 => 0x4_0000_4000_0402,
+        19 => 0x4_0000_4000_0402,
+        20 => 0x4_0000_0010_0001,
+        21 => 0x4_0000_4010_0002,
+        22 => 0x4_0000_4010_0002,
+        23 => 0x4_0000_4010_0002,
+        24 => 0x4_0000_0000_0401,
+        25 => 0x4_0000_0000_0402,
+        26 => 0x4_0000_0000_0402,
+        27 => 0x4_0000_4000_0402,
+        28 => 0x4_0000_0010_0001,
+        29 => 0x4_0000_0010_0002,
+        30 => 0x4_0000_0010_0002,
+        31 => 0x4_0000_4010_0002,
+        32 => 0x4000_0001,
+        33 => 0x4000_0002,
+        34 => 0x4000_0002,
+        35 => 0x4000_0002,
+        36 => 0x4000_0001,
+        37 => 0x4000_0002,
+        38 => 0x4000_0002,
+        39 => 0x4000_0002,
+        40 => 0x4000_0001,
+        41 => 0x4000_0002,
+        42 => 0x4000_0002,
+        43 => 0x4000_0002,
+        44 => 0x4000_0001,
+        45 => 0x4000_0002,
+        46 => 0x4000_0002,
+        47 => 0x4000_0002,
+        48 => 0x4_0000_4000_0401,
+        49 => 0x4_0000_4000_0402,
+        50 => 0x4_0000_4000_0402,
+        51 => 0x4_0000_4000_0402,
+        52 => 0x4_0000_4010_0001,
+        53 => 0x4_0000_4010_0002,
+        54 => 0x4_0000_4010_0002,
+        55 => 0x4_0000_4010_0002,
+        56 => 0x4_0000_4000_0401,
+        57 => 0x4_0000_4000_0402,
+        58 => 0x4_0000_4000_0402,
+        59 => 0x4_0000_4000_0402,
+        60 => 0x4_0000_4010_0001,
+        61 => 0x4_0000_4010_0002,
+        62 => 0x4_0000_4010_0002,
+        63 => 0x4_0000_4010_0002,
+        _ => 0,
     }
-    back[top] % 64
 }
 
-// Notes the entry of an item at a place.
+// The same on the way back.
+fn back_weight(top: u8) -> u64
+    requires { ⌜ top < 64 ⌝ }
+    ensures { λ r. ⌜ r ≡ sideBits false top ⌝ }
+{
+    match top {
+        0 => 0,
+        1 => 0x4_0100_0000_0401,
+        2 => 0x4_0100_0010_0001,
+        3 => 0x4_0100_4010_0401,
+        4 => 0x1,
+        5 => 0x4_0100_0000_0402,
+        6 => 0x4_0100_0010_0002,
+        7 => 0x4_0100_4010_0402,
+        8 => 0x1,
+        9 => 0x4_0100_0000_0402,
+        10 => 0x4_0100_0010_0002,
+        11 => 0x4_0100_4010_0402,
+        12 => 0x1,
+        13 => 0x4_0100_0000_0402,
+        14 => 0x4_0100_0010_0002,
+        15 => 0x4_0100_4010_0402,
+        16 => 0x4_0000_0000_0401,
+        17 => 0x4_0000_4000_0402,
+        18 => 0x4_0000_4000_0402,
+        19 => 0x4_0000_4000_0402,
+        20 => 0x4_0000_0010_0001,
+        21 => 0x4_0000_4010_0002,
+        22 => 0x4_0000_4010_0002,
+        23 => 0x4_0000_4010_0002,
+        24 => 0x1,
+        25 => 0x4_0100_0000_0402,
+        26 => 0x4_0100_0010_0002,
+        27 => 0x4_0100_4010_0402,
+        28 => 0x1,
+        29 => 0x4_0100_0000_0402,
+        30 => 0x4_0100_0010_0002,
+        31 => 0x4_0100_4010_0402,
+        32 => 0x4000_0001,
+        33 => 0x4_0100_4000_0402,
+        34 => 0x4_0100_4010_0002,
+        35 => 0x4_0100_4010_0402,
+        36 => 0x4000_0001,
+        37 => 0x4_0100_4000_0402,
+        38 => 0x4_0100_4010_0002,
+        39 => 0x4_0100_4010_0402,
+        40 => 0x4000_0001,
+        41 => 0x4_0100_4000_0402,
+        42 => 0x4_0100_4010_0002,
+        43 => 0x4_0100_4010_0402,
+        44 => 0x4000_0001,
+        45 => 0x4_0100_4000_0402,
+        46 => 0x4_0100_4010_0002,
+        47 => 0x4_0100_4010_0402,
+        48 => 0x4000_0001,
+        49 => 0x4_0100_4000_0402,
+        50 => 0x4_0100_4010_0002,
+        51 => 0x4_0100_4010_0402,
+        52 => 0x4000_0001,
+        53 => 0x4_0100_4000_0402,
+        54 => 0x4_0100_4010_0002,
+        55 => 0x4_0100_4010_0402,
+        56 => 0x4000_0001,
+        57 => 0x4_0100_4000_0402,
+        58 => 0x4_0100_4010_0002,
+        59 => 0x4_0100_4010_0402,
+        60 => 0x4000_0001,
+        61 => 0x4_0100_4000_0402,
+        62 => 0x4_0100_4010_0002,
+        63 => 0x4_0100_4010_0402,
+        _ => 0,
+    }
+}
+
+// The weight of an entry with this state word on a side.
+fn weight(state: u64, forward: bool) -> u64
+    ensures { λ r. ⌜ r ≡ sideBits forward (topOf state) ⌝ }
+{
+    let top = (state / 0x400_0000_0000_0000) as u8;
+    if forward {
+        return forward_weight(top);
+    }
+    back_weight(top)
+}
+
+// One of two words.
+fn either(test: bool, yes: u64, no: u64) -> u64
+    ensures { λ r. ⌜ r ≡ cond test yes no ⌝ }
+{
+    if test {
+        return yes;
+    }
+    no
+}
+
+// Notes the entry of an item at a place; a recovery copy adds to the tally by the node's step.
 fn note_entry(
     table: &[u64],
     at: usize,
     item: usize,
     forward: bool,
+    step: u64,
     tallies: &mut [u64],
     firsts: &mut [u64],
-) -> Turn
-    requires { ⌜ (at + 2 < length (now table)) × ((item < length (now tallies)) × ((item < length (now firsts)) × (getD (now tallies) item 0 < 2 ^ 32))) ⌝ }
-    ensures { λ r. ⌜ EntryNoted forward (entryFrom (now (table .entry)) at) item (now (tallies .entry)) (now (tallies .exit)) (now (firsts .entry)) (now (firsts .exit)) r ⌝ }
+) -> Note
+    requires { ⌜ (at + 2 < length (now table)) × ((item < length (now tallies)) × ((item < length (now firsts)) × ((getD (now tallies) item 0 < 2 ^ 62) × (step < 2 ^ 32)))) ⌝ }
+    ensures { λ r. ⌜ EntryNoted forward step (entryFrom (now (table .entry)) at) item (now (tallies .entry)) (now (tallies .exit)) (now (firsts .entry)) (now (firsts .exit)) r ⌝ }
 {
     let state = table[at];
-    let value = table[at + 1];
-    let kept_value = table[at + 2];
     let tally = tallies[item];
     let first = firsts[item];
-    let kind = trait_of(state, forward);
-    let x = if kind / 16 % 2 == 0 {
-        value
-    } else {
-        kept_value
-    };
-    let has = kind / 4 % 4 != 0;
-    let known = if tally == 0 { x } else { first };
-    tallies[item] = tally + ((kind / 4 % 2) as u64 + 1024 * ((kind / 8 % 2) as u64));
-    firsts[item] = if has { known } else { first };
-    Turn {
-        forms: (kind / 32 == 0) & (state % 0x400_0000_0000_0000 == 0),
-        frames: (kind % 4) as usize,
-        held: has as u64,
-        agree: !has | ((tally == 0) | (x == first)),
+    let weight = weight(state, forward);
+    let kept = (weight / 0x100_0000_0000 % 2) as usize;
+    let value = table[at + 1 + kept];
+    let adds = weight / 1024 % 2048;
+    let known = either(tally == 0, value, first);
+    tallies[item] = tally + adds * step;
+    firsts[item] = either(adds == 0, first, known);
+    Note {
+        weight,
+        low: state % 0x400_0000_0000_0000 == 0,
+        agree: (adds == 0) | ((tally == 0) | (value == first)),
     }
 }
 
@@ -92,31 +253,31 @@ fn note_row(
 {
     let start = g.entry_at(node, 0);
     let count = rows::occupied(table, g, node, list);
-    let mut forms = true;
-    let mut frames: usize = 0;
-    let mut held: u64 = 0;
+    let step = 1 + 0x10_0000 * (node as u64);
+    let mut low = true;
+    let mut sum: u64 = 0;
     let mut agree = true;
     let mut k: usize = 0;
     while k < count {
         let item = list[k] as usize;
-        let turn = note_entry(
+        let note = note_entry(
             table,
             start + Geometry::ENTRY_WORDS * item,
             item,
             forward,
+            step,
             tallies,
             firsts,
         );
-        forms = forms & turn.forms;
-        frames += turn.frames;
-        held += turn.held;
-        agree = agree & turn.agree;
+        sum += note.weight;
+        low = low & note.low;
+        agree = agree & note.agree;
         k += 1;
     }
     Turn {
-        forms,
-        frames,
-        held,
+        forms: low & (sum / 0x4000_0000 % 1024 == 0),
+        frames: (sum % 1024) as usize,
+        held: sum / 0x4_0000_0000_0000,
         agree,
     }
 }
@@ -202,7 +363,7 @@ fn kinds_of(items: u16, tallies: &[u64]) -> Kinds
     while item < items {
         let tally = tallies[item as usize];
         seen = seen & (tally != 0);
-        plain = plain & ((tally % 1024 < 2) & (tally / 1024 < 2));
+        plain = plain & ((tally % 1024 < 2) & (tally / 1024 % 1024 < 2));
         item += 1;
     }
     Kinds { seen, plain }

@@ -155,7 +155,7 @@ fn number_turn(table: &mut [u64], left: u64, g: Geometry, lost: Lost, item: u16,
     requires { ⌜ Numberable g lost left (now table) item tally ⌝ }
     ensures { λ r. ⌜ Stored g left (pass (λ d. d) (λ d. item) (λ d. numberChange g (survivors lost (view g (now (table .entry)))) d item) (g .nodes)) (now (table .entry)) (now (table .exit)) r ⌝ }
 {
-    if (tally % 1024 < 2) & (tally / 1024 < 2) {
+    if (tally % 1024 < 2) & (tally / 1024 % 1024 < 2) {
         return left;
     }
     number_item(table, left, g, lost, item)

@@ -62,27 +62,6 @@ pub(crate) fn fill_counted(nodes: u8, used: &[u64], scratch: &mut [u64])
     }
 }
 
-// The lowest survivor with a copy of an item, or the number of nodes if there is none.
-fn holder_of(table: &[u64], g: Geometry, lost: Lost, item: u16) -> u8
-    requires { ⌜ (item < g .items) × (wordsOf g ≤ length (now table)) ⌝ }
-    ensures { λ r. ⌜ r ≡ holderOf g (survivors lost (view g (now (table .entry)))) item ⌝ }
-{
-    let nodes = g.nodes;
-    let row = Geometry::ENTRY_WORDS * (g.items as usize);
-    let mut at = g.entry_at(0, item);
-    let mut node: u8 = 0;
-    while node < nodes {
-        let mark = survivors::survivor_mark(table, g, lost, node);
-        let current = words::current_of(table[at]);
-        if (mark != 0) & (current != words::INVALID) {
-            return node;
-        }
-        at += row;
-        node += 1;
-    }
-    nodes
-}
-
 // Whether a node can take a partner: a survivor, its current place Invalid, and a frame free.
 fn can_take(table: &[u64], g: Geometry, lost: Lost, scratch: &[u64], item: u16, node: u8) -> bool
     requires { ⌜ HasEntry g (now table) node item ⌝ }
@@ -184,7 +163,7 @@ fn partner_from(
     store_partner(table, left, g, partner, item, node)
 }
 
-// The turn of an item with a single copy: its holder's copy gets a partner.
+// The turn of an item with a single copy, whose holder is told: the copy gets a partner.
 fn partner_item(
     table: &mut [u64],
     left: u64,
@@ -192,18 +171,19 @@ fn partner_item(
     lost: Lost,
     scratch: &mut [u64],
     item: u16,
+    holder: u64,
 ) -> u64
-    requires { ⌜ Ready g lost left (now table) (now scratch) × ((item < g .items) × Single g lost left (now table) item) ⌝ }
+    requires { ⌜ Ready g lost left (now table) (now scratch) × ((item < g .items) × Single g lost left (now table) item holder) ⌝ }
     ensures { λ r. ⌜ Turned g lost (partnerStores g item) left (now (table .entry)) (now (table .exit)) (now (scratch .entry)) (now (scratch .exit)) r ⌝ }
 {
-    let node = holder_of(table, g, lost, item);
-    if node < g.nodes {
-        return partner_from(table, left, g, lost, scratch, item, node);
+    let nodes = g.nodes as u64;
+    if holder < nodes {
+        return partner_from(table, left, g, lost, scratch, item, holder as u8);
     }
     left
 }
 
-// An item's turn, by its tally before the numbering: with two holders and more it has a pair now, else a single copy.
+// An item's turn, by its tally before the numbering: with two holders and more it has a pair now, else a single copy, whose holder the tally tells.
 fn partner_turn(
     table: &mut [u64],
     left: u64,
@@ -216,10 +196,11 @@ fn partner_turn(
     requires { ⌜ Passable g lost left (now table) (now scratch) item tally ⌝ }
     ensures { λ r. ⌜ Turned g lost (partnerStores g item) left (now (table .entry)) (now (table .exit)) (now (scratch .entry)) (now (scratch .exit)) r ⌝ }
 {
-    if 1 < tally % 1024 + tally / 1024 {
+    if 1 < tally % 1024 + tally / 1024 % 1024 {
         return left;
     }
-    partner_item(table, left, g, lost, scratch, item)
+    let holder = tally / 0x10_0000 % 1024 + tally / 0x4000_0000;
+    partner_item(table, left, g, lost, scratch, item, holder)
 }
 
 // The partner stage: the items, ascending. Of the scratch it writes the first words, one a node.

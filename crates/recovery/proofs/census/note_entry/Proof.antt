@@ -1,19 +1,28 @@
 -- `note_entry` meets its contract. Assumes nothing.
-use mathlib.Core.Logic.{⊎-elim}
-use Rattle.entries.specs.SurveyNoting.{chosen-first, chosen-second}
-use Rattle.recovery.specs.CensusEntry.{chosen-yes, chosen-no, entry-noted}
+use mathlib.Core.Path.{refl}
+use native.Mathlib.Omega.{arith}
+use Rattle.recovery.specs.CensusEntry.{adds-small, entry-noted}
 use borrow.Author.Needs.{needs}
 use Rattle.recovery.proofs.census.note_entry.Statement.{statement}
 use Rattle.recovery.proofs.census.note_entry.Tie as tie
 
+mul-tallies : tie.Need-mul-tallies
+mul-tallies c =
+    let k = c .before .before in
+    let f = k .before .before .before .before .before .before .before in
+    record { fits = omega (arith, adds-small (k .weight .result) (f .args .step) (f .pre .1 .1 .1 .1)) }
+
+add-tallies : tie.Need-add-tallies
+add-tallies c =
+    let k = c .before .before in
+    let f = k .before .before .before .before .before .before .before in
+    record { fits = omega (arith, adds-small (k .weight .result) (f .args .step) (f .pre .1 .1 .1 .1), f .pre .1 .1 .1 .0) }
+
 returns : tie.Need-returns
 returns c =
-    let k = c .before .before in
-    let a = k .before .before .before .before .before .before .before .before .before .before .args in
-    entry-noted _ (a .table .now) (a .at) _ _ _ (k .before .trait-of .ensures)
-    (⊎-elim (λ w. chosen-first _ _ _ (w .0 .taken) (w .1)) (λ w. chosen-second _ _ _ (w .0 .left) (w .1)) (k .if1 .came))
-    (⊎-elim (λ w. chosen-first _ _ _ (w .0 .taken) (w .1)) (λ w. chosen-second _ _ _ (w .0 .left) (w .1)) (c .before .if2 .came))
-    (⊎-elim (λ w. chosen-yes _ _ _ (w .0 .taken) (w .1)) (λ w. chosen-no _ _ _ (w .0 .left) (w .1)) (c .if3 .came))
+    let k = c .before .before .before in
+    let a = k .before .before .before .before .before .before .before .args in
+    entry-noted _ _ (a .table .now) (a .at) _ _ _ (k .weight .ensures) refl (c .before .either .ensures) (c .either2 .ensures)
 
 pub note-entry-spec : {M : Type 1} → statement M
 note-entry-spec =
@@ -25,22 +34,17 @@ note-entry-spec =
     (λ c. search needs)
     (λ c. search needs)
     (λ c. search needs)
-    (λ c. search needs)
-    (λ c. search needs)
-    (λ c. search needs)
-    (λ c. search needs)
-    (λ c. search needs)
-    (λ c. search needs)
     (λ c κs. search needs)
     (λ c. search needs)
     (λ c. search needs)
     (λ c. search needs)
     (λ c. search needs)
+    (λ c κs. search needs)
+    mul-tallies
+    add-tallies
     (λ c. search needs)
     (λ c. search needs)
-    (λ c. search needs)
-    (λ c. search needs)
-    (λ c. search needs)
+    (λ c κs. search needs)
     (λ c. search needs)
     (λ c. search needs)
     (λ c. search needs)

@@ -13,7 +13,7 @@ returns c =
     node-noted-dead _ (f .args .forward) (f .args .lost) (view (f .args .g) (f .args .table .now)) _ (m .survivor-mark .ensures) (k .mark-form .ensures) (f .pre) (c .if1 .taken)
 
 note-row-requires : tie.Need-note-row-requires
-note-row-requires c κs = row-ready _ _ _ _ (c .before .before .before .before .before .before .before .before .before .before .before .pre)
+note-row-requires c κs = row-ready _ _ _ _ (search needs) (c .before .before .before .before .before .before .before .before .before .before .before .pre)
 
 returns-2 : tie.Need-returns-2
 returns-2 c =

@@ -31,7 +31,7 @@ note-node-requires c κs =
     let t = c .before .before .before .before in
     let l = t .before in
     let p = l .before .before .before .before .before .before .pre in
-    record { there = t .loop-test .taken; long = p .long; list-room = omega (arith, p .list-room, l .loop .inv .1 .0 .0); before = l .loop .inv .1 .1 .0 }
+    record { there = t .loop-test .taken; long = p .long; list-room = omega (arith, p .list-room, l .loop .inv .1 .0 .0); sized = p .sized; before = l .loop .inv .1 .1 .0 }
 
 loop-again : tie.Need-loop-again Inv-loop μ-loop
 loop-again c =

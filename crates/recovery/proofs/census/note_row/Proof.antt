@@ -10,13 +10,13 @@ use Rattle.recovery.proofs.census.note_row.Statement.{statement}
 use Rattle.recovery.proofs.census.note_row.Tie as tie
 
 abbrev Inv-loop : tie.InvT-loop
-Inv-loop table node forward list tallies₀ firsts₀ start many forms₀ frames₀ held₀ agree₀ k₀ tallies firsts forms frames held agree k =
+Inv-loop table node forward list tallies₀ firsts₀ start many step low₀ sum₀ agree₀ k₀ tallies firsts low sum agree k =
     (k ≤ many)
     × ((g : Geometry) → RowListed g node table start list many tallies₀ firsts₀
-    → RowPassed forward (view g table) node (reached list k) tallies₀ tallies firsts₀ firsts forms frames held agree)
+    → RowPassed forward (view g table) node (reached list k) tallies₀ tallies firsts₀ firsts low sum agree)
 
 abbrev μ-loop : tie.MeasureT-loop
-μ-loop table node forward list tallies₀ firsts₀ start many forms₀ frames₀ held₀ agree₀ k₀ tallies firsts forms frames held agree k = many - k
+μ-loop table node forward list tallies₀ firsts₀ start many step low₀ sum₀ agree₀ k₀ tallies firsts low sum agree k = many - k
 
 occupied-requires : tie.Need-occupied-requires Inv-loop μ-loop
 occupied-requires c κs = let p = c .before .before .before .before .before .before .pre in (p .there, (p .long, p .list-room))
@@ -55,35 +55,21 @@ note-entry-requires c κs =
     let w = row-lists (f .args .g) (f .args .node) (f .args .table .now) (f .pre) (e .entry-at .ensures) (o .occupied .ensures .listed) in
     passed-asks (f .args .g) (f .args .forward) (f .args .node) (f .args .table .now) w _ (l .loop .inv .1 (f .args .g) w) (f .pre) (search needs) (t .loop-test .taken)
 
-add-frames : tie.Need-add-frames Inv-loop μ-loop
-add-frames c =
-    let n = c .before .before .before .before .before .before in
+add-sum : tie.Need-add-sum Inv-loop μ-loop
+add-sum c =
+    let n = c .before .before .before .before .before in
     let t = n .before .before .before .before in
     let l = t .before in
     let o = l .before .before .before in
     let e = o .before .before in
     let f = e .before .before .before .before .before in
     let w = row-lists (f .args .g) (f .args .node) (f .args .table .now) (f .pre) (e .entry-at .ensures) (o .occupied .ensures .listed) in
-    let a = passed-small (f .args .g) (f .args .forward) (f .args .node) (f .args .table .now) w _ (l .loop .inv .1 (f .args .g) w) (t .loop-test .taken) .0 in
-    let b = entry-small (n .note-entry .ensures) .0 in
-    record { fits = omega (arith, a, b, f .pre .tallies-room, f .good .1 .1 .1 .1 .1 .0 .1) }
-
-add-held : tie.Need-add-held Inv-loop μ-loop
-add-held c =
-    let n = c .before .before .before .before .before .before .before in
-    let t = n .before .before .before .before in
-    let l = t .before in
-    let o = l .before .before .before in
-    let e = o .before .before in
-    let f = e .before .before .before .before .before in
-    let w = row-lists (f .args .g) (f .args .node) (f .args .table .now) (f .pre) (e .entry-at .ensures) (o .occupied .ensures .listed) in
-    let a = passed-small (f .args .g) (f .args .forward) (f .args .node) (f .args .table .now) w _ (l .loop .inv .1 (f .args .g) w) (t .loop-test .taken) .1 in
-    let b = entry-small (n .note-entry .ensures) .1 in
-    record { fits = omega (arith, a, b, f .pre .tallies-room, f .good .1 .1 .1 .1 .1 .0 .1) }
+    let a = passed-small (f .args .g) (f .args .forward) (f .args .node) (f .args .table .now) w _ (l .loop .inv .1 (f .args .g) w) (f .pre .sized) (l .loop .inv .0) in
+    record { fits = omega (arith, a, entry-small (n .note-entry .ensures)) }
 
 loop-again : tie.Need-loop-again Inv-loop μ-loop
 loop-again c =
-    let n = c .before .before .before .before .before .before .before .before in
+    let n = c .before .before .before .before .before .before .before in
     let t = n .before .before .before .before in
     let l = t .before in
     let f = l .before .before .before .before .before .before .before .before .before .before in
@@ -114,7 +100,7 @@ returns c =
     let e = o .before .before in
     let f = e .before .before .before .before .before in
     let w = row-lists (f .args .g) (f .args .node) (f .args .table .now) (f .pre) (e .entry-at .ensures) (o .occupied .ensures .listed) in
-    passed-all (f .args .g) (f .args .forward) (f .args .node) (f .args .table .now) w _ (l .loop .inv .1 (f .args .g) w) (l .loop .inv .0) (c .loop-test .left) (o .occupied .ensures .size)
+    passed-all (f .args .g) (f .args .forward) (f .args .node) (f .args .table .now) w _ (l .loop .inv .1 (f .args .g) w) (f .pre .sized) (l .loop .inv .0) (c .loop-test .left) (o .occupied .ensures .size)
 
 pub note-row-spec : {M : Type 1} → statement M
 note-row-spec =
@@ -124,6 +110,8 @@ note-row-spec =
     μ-loop
     (λ c κs. search needs)
     occupied-requires
+    (λ c. search needs)
+    (λ c. search needs)
     (λ c. (search needs, λ g w. passed-start _ _ _ _ _ _))
     (λ c. search needs)
     read-item
@@ -131,8 +119,7 @@ note-row-spec =
     mul-item
     add-at
     note-entry-requires
-    add-frames
-    add-held
+    add-sum
     (λ c. search needs)
     (λ c. search needs)
     loop-again

@@ -16,6 +16,7 @@ partner-turn-spec =
     (tie.spec
     (λ c. search needs)
     (λ c. let f = c .before .before .before in turn-skipped (f .args .g) (f .args .lost) (f .pre) (c .if1 .taken))
+    (λ c. search needs)
     partner-item-requires
     (λ c. search needs)
     (λ c. search needs)
