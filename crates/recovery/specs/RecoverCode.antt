@@ -32,7 +32,7 @@ use Rattle.recovery.specs.ClosingMarks.{closingStores}
 use Rattle.recovery.specs.RecoverPlan.{admission-admits}
 use Rattle.recovery.specs.RecoverStages.{survivors-same, lost-stores-within, survivors-stored, recover-stored}
 use Rattle.recovery.specs.RollingCode.{Rolled}
-use Rattle.recovery.specs.Census.{Taken}
+use Rattle.recovery.specs.Census.{Takable, Taken}
 use Rattle.recovery.specs.PairsCode.{Restorable, Pairable, Pairs, rolled-pairable}
 use Rattle.recovery.specs.Recover.{survivorStores, recoverStores, scratchWords, survivorsFormed, tooFew, recoverAdmission, recoverChecked, recoverOf, scratchAfter}
 
@@ -116,6 +116,18 @@ roomy-zeros g k h = record {
   firsts-room = rw (length-replicate {A = ℕ} k 0) h;
   tallies-zero = λ j l. getD-replicate k j 0 0 (omega arith);
   firsts-zero = λ j l. getD-replicate k j 0 0 (omega arith);
+}
+
+pub roomy-takable : (g : Geometry) {t l s f u : List ℕ} → Surveyable g t → Roomy g l s f → g .nodes ≤ length u → Takable g t l s f u
+roomy-takable g z r h = record {
+  long = z .words;
+  list-room = r .list-room;
+  tallies-room = r .tallies-room;
+  firsts-room = r .firsts-room;
+  used-room = h;
+  sized = z .items;
+  tallies-zero = r .tallies-zero;
+  firsts-zero = r .firsts-zero;
 }
 
 -- ---- the plan

@@ -4,10 +4,15 @@ use native.Mathlib.Omega.{arith}
 use Rattle.table.specs.View.{view}
 use Rattle.recovery.specs.Survivors.{survivors}
 use Rattle.recovery.specs.SidesCode.{fits-chosen}
-use Rattle.recovery.specs.RecoverCode.{recover-turned, recover-admitted, recover-ready, recover-refused, recover-done}
+use Rattle.recovery.specs.RecoverCode.{roomy-takable, recover-turned, recover-admitted, recover-ready, recover-refused, recover-done}
 use borrow.Author.Needs.{needs}
 use Rattle.recovery.proofs.recover.recover_in.Statement.{statement}
 use Rattle.recovery.proofs.recover.recover_in.Tie as tie
+
+take-requires : tie.Need-take-requires
+take-requires c κs =
+    let o = c .before .before .before .before .before .before .before .before .before .before .before .before in
+    roomy-takable _ (o .pre .0) (o .pre .1) (search needs)
 
 admit-recover-requires : tie.Need-admit-recover-requires
 admit-recover-requires c κs =
@@ -45,7 +50,7 @@ recover-in-spec =
     (tie.spec
     (λ c κs. search needs)
     (λ c. search needs)
-    (λ c κs. search needs)
+    take-requires
     admit-recover-requires
     (λ c. search needs)
     (λ c. search needs)
