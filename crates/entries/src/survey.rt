@@ -24,7 +24,7 @@ struct Turn {
 // Whether all is sound, and the lowest item with an Owner or a Modified, or the number of items.
 pub(crate) struct Findings {
     pub sound: bool,
-    pub dirty: u16,
+    pub dirty: u64,
 }
 
 // The weight of an entry, by the six top bits of its state word.
@@ -232,7 +232,7 @@ fn kinds_sound(notes: &[u64], items: u16, phase: u64) -> Findings
 {
     let created = created_tally(phase);
     let mut sound = true;
-    let mut dirty = items;
+    let mut dirty = items as u64;
     let mut at = 3 * (items as usize);
     let mut item = items;
     while 0 < item {
@@ -241,11 +241,7 @@ fn kinds_sound(notes: &[u64], items: u16, phase: u64) -> Findings
         let tally = notes[at];
         let good = kind_sound(tally, created);
         sound = good & sound;
-        dirty = if tally / 0x8000 % 1024 == 0 {
-            dirty
-        } else {
-            item
-        };
+        dirty = either(tally / 0x8000 % 1024 == 0, dirty, item as u64);
     }
     Findings { sound, dirty }
 }
