@@ -1,4 +1,4 @@
--- The entries of a table: frames in use, soundness, the table checks with their facts; Format, Check and Stretch.
+-- The entries of a table: frames in use, soundness, the table checks with their facts.
 pub mod Frames
 pub mod Dirty
 pub mod Tally
@@ -28,8 +28,3 @@ pub mod Sharers
 pub mod SoundFacts
 pub mod CheckFacts
 pub mod Unread
-pub mod Format
-pub mod FormatRow
-pub mod FirstPlaces
-pub mod FormatTheorem
-pub mod Stretch

@@ -9,7 +9,7 @@ use lib.ListN.{getD}
 use borrow.Author.Tests.{eqb-true}
 use Rattle.counting.specs.Tests.{both, by-cases, given, and-true}
 use Rattle.counting.specs.Counting.{every, every-at, every-back, every-back-ends, sum, count, count-le, count-ext, count-or}
-use Rattle.counting.specs.First.{first, first-ext, found-counted, firstElse, else-starts, else-turns, else-ends}
+use Rattle.counting.specs.First.{first, first-le, first-ext, found-counted, firstElse, else-starts, else-turns, else-ends}
 use Rattle.table.specs.declared.geometry.Geometry.{Geometry}
 use Rattle.table.specs.Words.{stateForm, phaseOf, owner, modified}
 use Rattle.table.specs.View.{View, view, live, current}
@@ -114,6 +114,10 @@ pub record Found (g : Geometry) (v : View) (phase : ℕ) (r : Findings) : Type 0
 pub record TableFound (g : Geometry) (v : View) (r : Findings) : Type 0 where
   pub is : r .sound ≡ sound g v
   pub dirty : sound g v ≡ true → r .dirty ≡ dirtyItem g v
+
+pub dirty-within : {g : Geometry} {v : View} {r : Findings} → TableFound g v r → sound g v ≡ true → r .dirty ≤ g .items
+unfolding dirtyItem
+dirty-within {g} {v} f e = omega (arith, f .dirty e, first-le (dirty g v) (g .items))
 
 nodes-formed :
     (g : Geometry) (v : View) → nodesSound g v ≡ true → (n b : ℕ) → n < g .nodes → b < g .items → live v n ≡ true → codesForm (topAt v b n) ≡ true

@@ -1,8 +1,6 @@
-// The entries of a table: the frames in use, the table checks; Format, Check and Stretch.
+// The entries of a table: the frames in use, the table checks.
 pub mod check;
-pub mod format;
 pub mod frames;
 mod marks;
 pub mod sound;
-pub mod stretch;
 mod survey;

@@ -1,6 +1,7 @@
 // The survey of a table by rows, in memory order. Of each row the entries that hold something are gathered, and only these are looked at: each adds its
 // weight to its item's tally, and its values are compared with the first that the item had.
 ghost use mathlib.Core.Path.{_≡_};
+ghost use mathlib.Core.Bool.{cond};
 ghost use Prim.Native.Nat.{_+_, _*_, _/_, _%_, _^_, _<_, _≤_};
 ghost use lib.ListN.{length, getD};
 ghost use Rattle.table.specs.View.{view};
@@ -23,7 +24,7 @@ struct Turn {
 // Whether all is sound, and the lowest item with an Owner or a Modified, or the number of items.
 pub(crate) struct Findings {
     pub sound: bool,
-    pub dirty: u16,
+    pub dirty: u64,
 }
 
 // The weight of an entry, by the six top bits of its state word.
@@ -106,6 +107,16 @@ fn occupied(table: &[u64], start: usize, items: u16, list: &mut [u16]) -> usize
     count
 }
 
+// One of two numbers, by a test.
+fn either(test: bool, yes: u64, no: u64) -> u64
+    ensures { λ r. ⌜ r ≡ cond test yes no ⌝ }
+{
+    if test {
+        return yes;
+    }
+    no
+}
+
 // Notes one entry.
 fn note_entry(table: &[u64], at: usize, j: usize, notes: &mut [u64]) -> Turn
     requires { ⌜ (at + 2 < length (now table)) × ((j + 2 < length (now notes)) × (getD (now notes) j 0 + weightOf (topOf (getD (now table) at 0)) < 2 ^ 64)) ⌝ }
@@ -118,21 +129,13 @@ fn note_entry(table: &[u64], at: usize, j: usize, notes: &mut [u64]) -> Turn
     let first = notes[j + 1];
     let kept_first = notes[j + 2];
     let weight = weight((state / 0x400_0000_0000_0000) as u8);
-    let first = if tally % 32 == 0 { value } else { first };
-    let kept_first = if tally / 32 % 1024 == 0 {
-        kept_value
-    } else {
-        kept_first
-    };
+    let first = either(tally % 32 == 0, value, first);
+    let kept_first = either(tally / 32 % 1024 == 0, kept_value, kept_first);
     notes[j] = tally + weight;
     notes[j + 1] = first;
     notes[j + 2] = kept_first;
-    let met = if weight % 32 == 0 { first } else { value };
-    let kept_met = if weight / 32 % 1024 == 0 {
-        kept_first
-    } else {
-        kept_value
-    };
+    let met = either(weight % 32 == 0, first, value);
+    let kept_met = either(weight / 32 % 1024 == 0, kept_first, kept_value);
     Turn {
         frames: weight / 0x2000_0000_0000,
         same: (first == met) & ((kept_first == kept_met) & (state % 0x400_0000_0000_0000 == 0)),
@@ -229,7 +232,7 @@ fn kinds_sound(notes: &[u64], items: u16, phase: u64) -> Findings
 {
     let created = created_tally(phase);
     let mut sound = true;
-    let mut dirty = items;
+    let mut dirty = items as u64;
     let mut at = 3 * (items as usize);
     let mut item = items;
     while 0 < item {
@@ -238,11 +241,7 @@ fn kinds_sound(notes: &[u64], items: u16, phase: u64) -> Findings
         let tally = notes[at];
         let good = kind_sound(tally, created);
         sound = good & sound;
-        dirty = if tally / 0x8000 % 1024 == 0 {
-            dirty
-        } else {
-            item
-        };
+        dirty = either(tally / 0x8000 % 1024 == 0, dirty, item as u64);
     }
     Findings { sound, dirty }
 }

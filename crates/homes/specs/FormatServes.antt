@@ -10,8 +10,8 @@ use Rattle.table.specs.Words.{numberOf}
 use Rattle.table.specs.Stores.{Store, after}
 use Rattle.table.specs.Copies.{noCopy, copyOf, backBy, backCopy, copyValue}
 use Rattle.table.specs.Answers.{carry}
-use Rattle.entries.specs.Format.{formatOf}
-use Rattle.entries.specs.FormatTheorem.{format-shows, format-sound}
+use Rattle.layout.specs.Format.{formatOf}
+use Rattle.layout.specs.FormatTheorem.{format-shows, format-sound}
 use Rattle.homes.specs.Serves.{Serves}
 
 -- a recovery copy where both values are 0

@@ -9,9 +9,9 @@ use Rattle.table.specs.declared.answers.Answer.the-variants.{Refused as Turned}
 use Rattle.table.specs.declared.answers.Numbers.{Numbers}
 use Rattle.table.specs.Geometry.{entryWords, entryAt}
 use Rattle.table.specs.Answers.{Plan, refuse, nothingLeft, carry, numbersOf, numbersAt}
-use Rattle.entries.specs.declared.stretch.Span.{Span}
-use Rattle.entries.specs.declared.stretch.Span.the-variants.{Entries, Refused}
-use Rattle.entries.specs.Stretch.{stretchOf, stretchPart, spanBy, Spanned, answer-refused, answer-yes}
+use Rattle.layout.specs.declared.stretch.Span.{Span}
+use Rattle.layout.specs.declared.stretch.Span.the-variants.{Entries, Refused}
+use Rattle.layout.specs.Stretch.{stretchOf, stretchPart, spanBy, Spanned, answer-refused, answer-yes}
 
 -- "a refusal gives an empty stretch"
 abbrev pub partStart : ℕ → Plan → ℕ

@@ -1,13 +1,13 @@
 // The words of a table, Format, Check and Stretch.
 ghost use mathlib.Core.Path.{_≡_};
 ghost use Rattle.table.specs.Answers.{numbersAt};
-ghost use Rattle.entries.specs.Format.{formatOf};
-ghost use Rattle.entries.specs.Stretch.{checkOf};
+ghost use Rattle.layout.specs.Format.{formatOf};
+ghost use Rattle.layout.specs.Stretch.{checkOf};
 ghost use Rattle.linkspan.specs.Report.{planned, Reports};
 ghost use Rattle.linkspan.specs.Words.{wordsFor};
 ghost use Rattle.linkspan.specs.Part.{PartReports};
 use crate::report;
-use entries::stretch::Span;
+use layout::stretch::Span;
 use table::answers;
 use table::answers::Answer;
 use table::geometry::Geometry;
@@ -38,7 +38,7 @@ pub extern "C" fn linkspan_format(
 ) -> u64
     ensures { λ r. ⌜ Reports (planned (formatOf (now (table .entry)) nodes items frames)) limit (now (table .entry)) (now (table .exit)) (now (value .exit)) (now (stores .exit)) r ⌝ }
 {
-    let answer = entries::format::format(table, nodes, items, frames, limit);
+    let answer = layout::format::format(table, nodes, items, frames, limit);
     report::report(answer, value, stores)
 }
 
@@ -47,7 +47,7 @@ pub extern "C" fn linkspan_format(
 pub extern "C" fn linkspan_check(table: &[u64]) -> u64
     ensures { λ r. ⌜ r ≡ numbersAt (checkOf (now (table .entry))) 0 .answer ⌝ }
 {
-    let answer = entries::check::check(table);
+    let answer = layout::check::check(table);
     let numbers = answers::numbers_of(answer);
     numbers.answer
 }
@@ -62,7 +62,7 @@ pub extern "C" fn linkspan_stretch(
 ) -> u64
     ensures { λ r. ⌜ PartReports (now (table .entry)) node (now (start .exit)) (now (words .exit)) r ⌝ }
 {
-    let at = entries::stretch::span_of(table, node);
+    let at = layout::stretch::span_of(table, node);
     match at {
         Span::Refused(x) => {
             *start = 0;

@@ -7,8 +7,8 @@ use denote.Triple.Clauses
 use denote.Ref.{now}
 use lib.ListN.{length}
 use Rattle.table.specs.Answers.{Meets, Told}
-use Rattle.entries.specs.Format.{formatOf}
-use Rattle.entries.specs.Stretch.{checkOf, stretchOf}
+use Rattle.layout.specs.Format.{formatOf}
+use Rattle.layout.specs.Stretch.{checkOf, stretchOf}
 use Rattle.homes.specs.Evict.{evictOf}
 use Rattle.calls.specs.Read.{readOf}
 use Rattle.calls.specs.Write.{writeOf}
@@ -20,15 +20,15 @@ use Rattle.recovery.specs.Recover.{recoverOf}
 use Rattle.recovery.specs.RecoverCode.{RecoverMeets}
 use Rattle.restore.specs.CallCode.{CarriedOut}
 use Rattle.restore.specs.Rehearsed.{Rehearsed}
-use Rattle.entries.proofs.format.format as format
-use Rattle.entries.proofs.format.format.Kinds as format-kinds
-use Rattle.entries.proofs.format.format.Reads as format-reads
-use Rattle.entries.proofs.check.check as check
-use Rattle.entries.proofs.check.check.Kinds as check-kinds
-use Rattle.entries.proofs.check.check.Reads as check-reads
-use Rattle.entries.proofs.stretch.stretch_answer as stretch
-use Rattle.entries.proofs.stretch.stretch_answer.Kinds as stretch-kinds
-use Rattle.entries.proofs.stretch.stretch_answer.Reads as stretch-reads
+use Rattle.layout.proofs.format.format as format
+use Rattle.layout.proofs.format.format.Kinds as format-kinds
+use Rattle.layout.proofs.format.format.Reads as format-reads
+use Rattle.layout.proofs.check.check as check
+use Rattle.layout.proofs.check.check.Kinds as check-kinds
+use Rattle.layout.proofs.check.check.Reads as check-reads
+use Rattle.layout.proofs.stretch.stretch_answer as stretch
+use Rattle.layout.proofs.stretch.stretch_answer.Kinds as stretch-kinds
+use Rattle.layout.proofs.stretch.stretch_answer.Reads as stretch-reads
 use Rattle.calls.proofs.read.read as read
 use Rattle.calls.proofs.read.read.Kinds as read-kinds
 use Rattle.calls.proofs.read.read.Reads as read-reads

@@ -3,8 +3,8 @@ use Prim.Native.Nat.{ℕ}
 use mathlib.Core.Bool.{Bool, true, false}
 use mathlib.Core.List.{List}
 use Rattle.table.specs.Answers.{Plan, refuse, nothingLeft, carry}
-use Rattle.entries.specs.Format.{formatOf}
-use Rattle.entries.specs.Stretch.{checkOf, stretchOf}
+use Rattle.layout.specs.Format.{formatOf}
+use Rattle.layout.specs.Stretch.{checkOf, stretchOf}
 use Rattle.calls.specs.Read.{readOf}
 use Rattle.calls.specs.Write.{writeOf}
 use Rattle.homes.specs.Evict.{evictOf}

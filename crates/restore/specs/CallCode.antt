@@ -5,8 +5,8 @@ use mathlib.Core.List.{List}
 use lib.ListN.{length}
 use Rattle.table.specs.declared.answers.Answer.{Answer}
 use Rattle.table.specs.Answers.{Plan, Meets, Told}
-use Rattle.entries.specs.Format.{formatOf}
-use Rattle.entries.specs.Stretch.{checkOf, stretchOf}
+use Rattle.layout.specs.Format.{formatOf}
+use Rattle.layout.specs.Stretch.{checkOf, stretchOf}
 use Rattle.homes.specs.declared.places.Place.{Place}
 use Rattle.homes.specs.Evict.{evictOf}
 use Rattle.calls.specs.Read.{readOf}

@@ -12,8 +12,8 @@ use Rattle.table.specs.Changes.{checkpointOf, keep}
 use Rattle.table.specs.Stores.{Store, entryStore, runs, runs-length, valueTo}
 use Rattle.table.specs.View.{Entry, View, current}
 use Rattle.table.specs.Answers.{carry}
-use Rattle.entries.specs.Format.{firstEntry, firstMark, firstEntries, formatStores, formatOf}
-use Rattle.entries.specs.FormatTheorem.{format-accepted}
+use Rattle.layout.specs.Format.{firstEntry, firstMark, firstEntries, formatStores, formatOf}
+use Rattle.layout.specs.FormatTheorem.{format-accepted}
 use Rattle.homes.specs.declared.places.Place.{Place}
 use Rattle.homes.specs.declared.places.Place.the-variants.{Current, Kept}
 use Rattle.homes.specs.declared.home.Arrival.{Arrival}

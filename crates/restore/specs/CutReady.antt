@@ -12,7 +12,7 @@ use Rattle.table.specs.Words.{numberOf}
 use Rattle.table.specs.Stores.{Store, after, after-none}
 use Rattle.table.specs.View.{View, view, live}
 use Rattle.table.specs.Answers.{Plan, refuse, nothingLeft, carry, tableOf}
-use Rattle.entries.specs.Stretch.{checkOf, stretchOf}
+use Rattle.layout.specs.Stretch.{checkOf, stretchOf}
 use Rattle.homes.specs.Kept.{test-live}
 use Rattle.calls.specs.Read.{readOf}
 use Rattle.calls.specs.Write.{writeOf}

@@ -9,7 +9,7 @@ use Rattle.table.specs.Stores.{Store, All, after-none}
 use Rattle.table.specs.View.{view}
 use Rattle.table.specs.Answers.{Plan, refuse, nothingLeft, carry, tableOf}
 use Rattle.entries.specs.CheckFacts.{Shape, accepted-facts}
-use Rattle.entries.specs.Stretch.{checkOf, stretchOf}
+use Rattle.layout.specs.Stretch.{checkOf, stretchOf}
 use Rattle.homes.specs.SoundKept.{Off, shape-after}
 use Rattle.checkpoints.specs.MarksSound.{marks-off}
 use Rattle.homes.specs.Serves.{same-geometry}

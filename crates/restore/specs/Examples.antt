@@ -16,7 +16,7 @@ use Rattle.table.specs.MarksPass.{markTo, marksTo}
 use Rattle.table.specs.Copies.{backBy}
 use Rattle.table.specs.declared.answers.Numbers.{Numbers}
 use Rattle.table.specs.Answers.{Plan, numbersAt, tableOf}
-use Rattle.entries.specs.Format.{firstEntries, formatStores, formatMade}
+use Rattle.layout.specs.Format.{firstEntries, formatStores, formatMade}
 use Rattle.entries.specs.Frames.{framesIn, framesAt, used, framesFit}
 use Rattle.entries.specs.Items.{itemTest}
 use Rattle.entries.specs.Sound.{marksForm, phasesOf, pointsOf, statesForm, nodeSound, nodesSound, itemSound, itemsSound, sound}

@@ -20,8 +20,8 @@ use Rattle.table.specs.Answers.{Plan, refuse, nothingLeft, carry}
 use Rattle.entries.specs.declared.check.Checked.{Checked}
 use Rattle.entries.specs.declared.check.Checked.the-variants.{Passed, Failed}
 use Rattle.entries.specs.Check.{sizesOf, faultOf}
-use Rattle.entries.specs.Format.{formatMade, formatOf}
-use Rattle.entries.specs.Stretch.{checkedPlan, checkOf, stretchChecked, stretchOf}
+use Rattle.layout.specs.Format.{formatMade, formatOf}
+use Rattle.layout.specs.Stretch.{checkedPlan, checkOf, stretchChecked, stretchOf}
 use Rattle.homes.specs.declared.admission.Admission.{Admission}
 use Rattle.homes.specs.declared.admission.Admission.the-variants.{Admitted, Turned}
 use Rattle.homes.specs.Plans.{planAdmitted, planChecked, planBy}

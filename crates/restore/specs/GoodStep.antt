@@ -16,7 +16,7 @@ use Rattle.table.specs.declared.geometry.Made.the-variants.{Allowed, NotAllowed
 use Rattle.table.specs.Geometry.{geometryOf, wordsOf, made-allowed}
 use Rattle.table.specs.Stores.{Store, after}
 use Rattle.table.specs.Answers.{Plan, refuse, nothingLeft, carry}
-use Rattle.entries.specs.Format.{formatStores, formatMade, formatOf}
+use Rattle.layout.specs.Format.{formatStores, formatMade, formatOf}
 use Rattle.homes.specs.Serves.{Serves, same-geometry}
 use Rattle.homes.specs.FormatServes.{format-serves}
 use Rattle.calls.specs.WriteTheorem.{carried as carriedWrite, admits}

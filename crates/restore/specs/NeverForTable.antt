@@ -15,7 +15,7 @@ use Rattle.table.specs.View.{View, view}
 use Rattle.table.specs.Answers.{Plan, refuse, nothingLeft, carry, refusalNumber}
 use Rattle.entries.specs.declared.check.Checked.the-variants.{Passed}
 use Rattle.entries.specs.Check.{faultOf}
-use Rattle.entries.specs.Stretch.{checkedPlan, checkOf, stretchChecked, stretchOf}
+use Rattle.layout.specs.Stretch.{checkedPlan, checkOf, stretchChecked, stretchOf}
 use Rattle.homes.specs.declared.admission.Admission.{Admission}
 use Rattle.homes.specs.declared.admission.Admission.the-variants.{Admitted, Turned}
 use Rattle.homes.specs.declared.places.Place.{Place}

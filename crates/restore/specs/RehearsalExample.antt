@@ -22,7 +22,7 @@ use Rattle.table.specs.Stores.{runs, after}
 use Rattle.table.specs.View.{view}
 use Rattle.table.specs.MarksPass.{markTo, marksTo}
 use Rattle.table.specs.Copies.{backBy}
-use Rattle.entries.specs.Format.{firstEntries, formatStores, formatMade}
+use Rattle.layout.specs.Format.{firstEntries, formatStores, formatMade}
 use Rattle.entries.specs.Frames.{framesIn, framesAt, used, framesFit}
 use Rattle.entries.specs.Items.{itemTest}
 use Rattle.entries.specs.Sound.{marksForm, phasesOf, pointsOf, statesForm, nodeSound, nodesSound, itemSound, itemsSound, sound}

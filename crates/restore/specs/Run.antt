@@ -7,7 +7,7 @@ use lib.ListN.{length, getD}
 use Rattle.table.specs.declared.geometry.Geometry.{Geometry}
 use Rattle.table.specs.Words.{nodesOf, itemsOf, framesOf}
 use Rattle.table.specs.Answers.{Plan, refuse, nothingLeft, carry, tableOf}
-use Rattle.entries.specs.Format.{formatOf}
+use Rattle.layout.specs.Format.{formatOf}
 use Rattle.restore.specs.declared.call.Call.{Call}
 use Rattle.restore.specs.declared.call.Call.the-variants.{Format, Check, Stretch, Read, Write, Evict, Open, Create, Commit, Abandon, Recover}
 use Rattle.restore.specs.Call.{planOf, refused, accepted}

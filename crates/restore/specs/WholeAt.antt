@@ -11,8 +11,8 @@ use Rattle.table.specs.Stores.{Store}
 use Rattle.table.specs.View.{View, view}
 use Rattle.table.specs.Answers.{Plan, refuse, nothingLeft, carry, tableOf}
 use Rattle.entries.specs.CheckFacts.{sizes-facts, accepted-facts}
-use Rattle.entries.specs.Format.{formatOf}
-use Rattle.entries.specs.FormatTheorem.{format-accepted}
+use Rattle.layout.specs.Format.{formatOf}
+use Rattle.layout.specs.FormatTheorem.{format-accepted}
 use Rattle.homes.specs.declared.admission.Admission.{Admission}
 use Rattle.homes.specs.Plans.{planBy, plan-acted, acted-carried}
 use Rattle.calls.specs.Read.{readAdmission, readValue, readStores}

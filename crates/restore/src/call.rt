@@ -27,9 +27,9 @@ pub fn carry_out(table: &mut [u64], call: Call, scratch: &mut [u64], limit: u64)
             nodes,
             items,
             frames,
-        } => { entries::format::format(table, nodes, items, frames, limit) }
-        Call::Check => entries::check::check(table),
-        Call::Stretch { node } => entries::stretch::stretch_answer(table, node),
+        } => { layout::format::format(table, nodes, items, frames, limit) }
+        Call::Check => layout::check::check(table),
+        Call::Stretch { node } => layout::stretch::stretch_answer(table, node),
         Call::Read { node, item } => calls::read::read(table, node, item, limit),
         Call::Write { node, item, value } => calls::write::write(table, node, item, value, limit),
         Call::Evict { node, item, place } => homes::evict::evict(table, node, item, place, limit),

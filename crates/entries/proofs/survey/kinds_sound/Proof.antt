@@ -1,10 +1,9 @@
 -- `kinds_sound` meets its contract: the loop has tested the items from `item` on. Assumes nothing.
 use Prim.Native.Nat.{_≤_, _*_}
-use mathlib.Core.Path.{_≡_, refl}
+use mathlib.Core.Path.{_≡_}
 use native.Mathlib.Omega.{arith}
 use borrow.Author.Needs.{needs}
 use Rattle.entries.specs.SurveyDirty.{KindsFrom, kinds-start, kinds-turn, kinds-end}
-use Rattle.entries.specs.SurveyNoting.{chosen-first, chosen-second}
 use Rattle.entries.proofs.survey.kinds_sound.Statement.{statement}
 use Rattle.entries.proofs.survey.kinds_sound.Tie as tie
 
@@ -19,13 +18,7 @@ loop-again : tie.Need-loop-again Inv-loop μ-loop
 loop-again c =
     let l = c .before .before .before .before in
     let at = l .loop .inv .1 .0 in
-    (search needs, (omega arith, kinds-turn _ _ _ (l .before .created-tally .ensures) (l .loop .inv .1 .1) (omega (arith, c .before .before .before .loop-test .taken)) (omega arith) (c .before .kind-sound .ensures) (chosen-first _ _ _ (c .if1 .taken) refl)))
-
-loop-again-2 : tie.Need-loop-again-2 Inv-loop μ-loop
-loop-again-2 c =
-    let l = c .before .before .before .before in
-    let at = l .loop .inv .1 .0 in
-    (search needs, (omega arith, kinds-turn _ _ _ (l .before .created-tally .ensures) (l .loop .inv .1 .1) (omega (arith, c .before .before .before .loop-test .taken)) (omega arith) (c .before .kind-sound .ensures) (chosen-second _ _ _ (c .if1 .left) refl)))
+    (search needs, (omega arith, kinds-turn _ _ _ (l .before .created-tally .ensures) (l .loop .inv .1 .1) (omega (arith, c .before .before .before .loop-test .taken)) (omega arith) (c .before .kind-sound .ensures) (c .either .ensures)))
 
 pub kinds-sound-spec : {M : Type 1} → statement M
 kinds-sound-spec =
@@ -42,7 +35,7 @@ kinds-sound-spec =
     (λ c. search needs)
     (λ c κs. search needs)
     (λ c. search needs)
-    loop-again
+    (λ c κs. search needs)
     (λ c. search needs)
-    loop-again-2
+    loop-again
     (λ c. kinds-end _ _ _ (c .loop-test .left) (c .before .loop .inv .1 .1)))

@@ -1,10 +1,9 @@
 -- `note_entry` meets its contract. Assumes nothing.
 use Prim.Native.Nat.{_+_}
-use mathlib.Core.Logic.{⊎-elim}
 use native.Mathlib.Omega.{arith}
 use lib.ListN.{getD, length-set}
 use borrow.Author.Needs.{needs}
-use Rattle.entries.specs.SurveyNoting.{chosen-first, chosen-second, entry-noted}
+use Rattle.entries.specs.SurveyNoting.{entry-noted}
 use Rattle.entries.proofs.survey.note_entry.Statement.{statement}
 use Rattle.entries.proofs.survey.note_entry.Tie as tie
 
@@ -20,12 +19,7 @@ slice-write-notes-2 c =
 returns : tie.Need-returns
 returns c =
     let k = c .before .before in
-    let w = k .before .before in
-    entry-noted _ _ _ _ _ (w .weight .ensures)
-    (⊎-elim (λ w. chosen-first _ _ _ (w .0 .taken) (w .1)) (λ w. chosen-second _ _ _ (w .0 .left) (w .1)) (k .before .if1 .came))
-    (⊎-elim (λ w. chosen-first _ _ _ (w .0 .taken) (w .1)) (λ w. chosen-second _ _ _ (w .0 .left) (w .1)) (k .if2 .came))
-    (⊎-elim (λ w. chosen-first _ _ _ (w .0 .taken) (w .1)) (λ w. chosen-second _ _ _ (w .0 .left) (w .1)) (c .before .if3 .came))
-    (⊎-elim (λ w. chosen-first _ _ _ (w .0 .taken) (w .1)) (λ w. chosen-second _ _ _ (w .0 .left) (w .1)) (c .if4 .came))
+    entry-noted _ _ _ _ _ (k .before .before .weight .ensures) (k .before .either .ensures) (k .either2 .ensures) (c .before .either3 .ensures) (c .either4 .ensures)
 
 pub note-entry-spec : {M : Type 1} → statement M
 note-entry-spec =
@@ -49,6 +43,8 @@ note-entry-spec =
     (λ c. search needs)
     cast-weight
     (λ c κs. search needs)
+    (λ c κs. search needs)
+    (λ c κs. search needs)
     (λ c. search needs)
     (λ c. search needs)
     (λ c. search needs)
@@ -58,5 +54,7 @@ note-entry-spec =
     (λ c. search needs)
     (λ c. search needs)
     (λ c. search needs)
+    (λ c κs. search needs)
+    (λ c κs. search needs)
     (λ c. search needs)
     returns)

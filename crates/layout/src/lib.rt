@@ -1,0 +1,4 @@
+// The calls on a table as a whole: Format, Check, Stretch.
+pub mod check;
+pub mod format;
+pub mod stretch;
