@@ -12,7 +12,7 @@ use lib.ListN.{length}
 use borrow.Author.Tests.{eqb-true}
 use Rattle.counting.specs.Tests.{either, no-both}
 use Rattle.table.specs.declared.geometry.Geometry.{Geometry}
-use Rattle.table.specs.Words.{stateForm, invalid, shared, owner, modified, precommit1, precommit2}
+use Rattle.table.specs.Words.{keptOf, stateForm, invalid, shared, owner, modified, precommit1, precommit2}
 use Rattle.table.specs.Stores.{Store, entryStore, stateTo, after, All, none, all-then}
 use Rattle.table.specs.View.{View, view, live, current, kept}
 use Rattle.table.specs.Answers.{carry}
@@ -192,8 +192,8 @@ drop-off : (g : Geometry) (h : ℕ) (a : Arrival) → All (Off g) (dropStores h 
 unfolding dropStores
 drop-off g h a = go (a .drops)
   where
-    go : (q : Bool) → All (Off g) (cond q (entryStore h (a .dropped) (stateTo invalid (a .beside)) ∷ []) [])
-    go true = entry-off g h (a .dropped) (stateTo invalid (a .beside) ∷ [])
+    go : (q : Bool) → All (Off g) (cond q (entryStore h (a .dropped) (stateTo invalid (keptOf (a .beside))) ∷ []) [])
+    go true = entry-off g h (a .dropped) (stateTo invalid (keptOf (a .beside)) ∷ [])
     go false = none
 
 home-off : (g : Geometry) (place : Place) (h b code value : ℕ) (a : Arrival) → All (Off g) (homeStoresBy place h b code value a)

@@ -1,11 +1,12 @@
 -- "Each place not Invalid uses a frame; no live node uses more than F." Frames are asked of a node and a set of items; a node's frames are one set.
-use Prim.Native.Nat.{ℕ, _+_, _<_, _≤_}
-use mathlib.Core.Path.{_≡_, ap₂}
-use mathlib.Core.Bool.{Bool, true, false, cond}
+use Prim.Native.Nat.{ℕ, zero, suc, _+_, _*_, _<_, _≤_}
+use mathlib.Core.Path.{_≡_, refl, sym, ap, ap₂, _∙_}
+use mathlib.Core.Bool.{Bool, true, false, cond, _&&_, _||_}
 use native.Mathlib.Omega.{arith}
-use lib.Dec.{eqb, leb}
-use borrow.Author.Tests.{eq-eqb, ne-eqb}
-use Rattle.counting.specs.Counting.{every, sum}
+use lib.Dec.{eqb, leb, ltb}
+use borrow.Author.Tests.{eq-eqb, ne-eqb, ltb-true, lt-ltb, leb-true}
+use Rattle.counting.specs.Tests.{both, by-cases, other-holds}
+use Rattle.counting.specs.Counting.{every, sum, sum-one-less}
 use Rattle.table.specs.declared.geometry.Geometry.{Geometry}
 use Rattle.table.specs.Words.{currentOf, keptOf, stateWord, current-state, kept-state}
 use Rattle.table.specs.View.{View}
@@ -42,6 +43,24 @@ used g v n s = sum (framesAt g v n s) (g .items)
 unfoldable pub framesFit : Geometry → View → ℕ → Bool
 framesFit g v n = every (λ s. leb (used g v n s) (setFrames g)) (setsOf g)
 
+-- "used < F": in the set of the item
+abbrev pub frameFree : Geometry → View → ℕ → ℕ → Bool
+frameFree g v n b = ltb (used g v n (setOf g b)) (setFrames g)
+
+-- ---- what tells of a free frame without counting
+
+-- a node has a frame for both places of every item, and b is one of them
+unfoldable pub ampleFor : Geometry → ℕ → Bool
+ampleFor g b = ltb b (g .items) && leb (2 * g .items) (setFrames g)
+
+-- a place of an entry is Invalid, by its state word
+unfoldable pub halfFree : ℕ → Bool
+halfFree w = eqb (currentOf w) 0 || eqb (keptOf w) 0
+
+-- a frame free for item b, whose entry has state word w
+unfoldable pub frameFreeBy : Geometry → View → ℕ → ℕ → ℕ → Bool
+frameFreeBy g v n b w = (ampleFor g b && halfFree w) || frameFree g v n b
+
 -- ---- laws
 
 pub set-there : (g : Geometry) (b : ℕ) → setOf g b < setsOf g
@@ -59,6 +78,10 @@ pub frames-state : (c k : ℕ) → c < 16 → k < 4 → framesIn (stateWord c k)
 unfolding framesIn
 frames-state c k hc hk = ap₂ (λ x y. frameOf x + frameOf y) (current-state c k hc hk) (kept-state c k hc hk)
 
+pub frames-two : (w : ℕ) → framesIn w ≤ 2
+unfolding framesIn
+frames-two w = omega (arith, frame-le (currentOf w), frame-le (keptOf w))
+
 -- an entry of the set asked for, and of another
 module _ (g : Geometry) (v : View) (n s b : ℕ) {set : ℕ} (h : set ≡ setOf g b) where
   pub frames-here : {f : ℕ} → set ≡ s → f ≡ framesIn (v .entry n b .state) → f ≡ framesAt g v n s b
@@ -68,3 +91,56 @@ module _ (g : Geometry) (v : View) (n s b : ℕ) {set : ℕ} (h : set ≡ setOf 
   pub frames-elsewhere : (set ≡ s → ⊥) → 0 ≡ framesAt g v n s b
   unfolding framesAt
   frames-elsewhere e = rw (← h, ne-eqb set s e)
+
+sum-twos : (n : ℕ) → sum (λ i. 2) n ≡ 2 * n
+unfolding sum
+sum-twos zero = refl
+sum-twos (suc n) = omega (arith, sum-twos n)
+
+-- frames are ample and a place of item b's entry is Invalid: not all are in use
+module _ (g : Geometry) (v : View) (n b : ℕ) where
+  frames-at-two : (s i : ℕ) → framesAt g v n s i ≤ framesIn (v .entry n i .state)
+  unfolding framesAt
+  frames-at-two s i = by-cases (eqb (setOf g i) s) (λ e. rw e (omega arith)) (λ e. rw e (omega arith))
+
+  half-one : (w : ℕ) → halfFree w ≡ true → framesIn w ≤ 1
+  unfolding halfFree framesIn
+  half-one w h = by-cases (eqb (currentOf w) 0)
+      (λ e. rw e (omega (arith, frame-le (keptOf w))))
+      (λ e. rw (other-holds (eqb (currentOf w) 0) h e) (omega (arith, frame-le (currentOf w))))
+
+  pub ample-free : ampleFor g b ≡ true → halfFree (v .entry n b .state) ≡ true → frameFree g v n b ≡ true
+  unfolding ampleFor used
+  ample-free a h =
+      let here = both (ltb b (g .items)) a in
+      let twos = sum-twos (g .items) in
+      let less = sum-one-less (g .items) (framesAt g v n (setOf g b)) (λ i. 2) b 1 (ltb-true b (g .items) (here .0))
+      (λ i l e. omega (arith, frames-at-two (setOf g b) i, frames-two (v .entry n i .state)))
+      (omega (arith, frames-at-two (setOf g b) b, half-one (v .entry n b .state) h)) in
+      lt-ltb _ (setFrames g) (omega (arith, less, twos, leb-true (2 * g .items) (setFrames g) (here .1)))
+
+  pub free-by : {w : ℕ} → w ≡ v .entry n b .state → frameFreeBy g v n b w ≡ frameFree g v n b
+  unfolding frameFreeBy
+  free-by {w} e = by-cases (ampleFor g b && halfFree w)
+      (λ t. let k = both (ampleFor g b) t in rw t (sym (ample-free (k .0) (rw (← e) (k .1)))))
+      (λ t. rw t refl)
+
+-- the ways of the code
+pub ample-read : (g : Geometry) (b : ℕ) {f : ℕ} → f ≡ setFrames g → (ltb b (g .items) && leb (2 * g .items) f) ≡ ampleFor g b
+unfolding ampleFor
+ample-read g b e = ap (λ f. ltb b (g .items) && leb (2 * g .items) f) e
+
+module _ (g : Geometry) (v : View) (n b w : ℕ) {a : Bool} {c k : ℕ} (p : a ≡ ampleFor g b) (q : c ≡ currentOf w) (r : k ≡ keptOf w) where
+  test : {t : Bool} → (a && (eqb c 0 || eqb k 0)) ≡ t → (ampleFor g b && halfFree w) ≡ t
+  unfolding halfFree
+  test e = rw (← p, ← q, ← r) e
+
+  pub free-told : (a && (eqb c 0 || eqb k 0)) ≡ true → true ≡ frameFreeBy g v n b w
+  unfolding frameFreeBy
+  free-told e = rw (test e) refl
+
+  pub free-counted :
+      (a && (eqb c 0 || eqb k 0)) ≡ false → {set u f : ℕ} → set ≡ setOf g b → u ≡ used g v n set → f ≡ setFrames g
+      → ltb u f ≡ frameFreeBy g v n b w
+  unfolding frameFreeBy
+  free-counted e x y z = rw (test e) (ap₂ ltb (y ∙ ap (used g v n) x) z)

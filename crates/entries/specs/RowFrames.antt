@@ -11,9 +11,8 @@ use Rattle.counting.specs.Tests.{both}
 use Rattle.counting.specs.Counting.{every, every-at, sum, sum-none, sum-next, sum-ext}
 use Rattle.table.specs.declared.geometry.Geometry.{Geometry}
 use Rattle.table.specs.Geometry.{Placed}
-use Rattle.table.specs.Words.{currentOf, keptOf}
 use Rattle.table.specs.View.{view}
-use Rattle.entries.specs.Frames.{setsOf, set-there, frameOf, frame-le, framesIn, frames-here, used}
+use Rattle.entries.specs.Frames.{setsOf, set-there, frameOf, framesIn, frames-here, used}
 use Rattle.entries.specs.Row.{topOf, quarter, rowState, row-read, row-state}
 
 -- ---- an entry
@@ -42,10 +41,6 @@ frameDigits =
 abbrev codeFrames : ℕ → ℕ
 codeFrames i = frameOf (i / 4) + frameOf (i % 4)
 
-pub frames-two : (w : ℕ) → framesIn w ≤ 2
-unfolding framesIn
-frames-two w = omega (arith, frame-le (currentOf w), frame-le (keptOf w))
-
 abbrev digitRule : ℕ → Bool
 digitRule i = eqb (getD frameDigits i 0) (48 + codeFrames i)
 
@@ -67,6 +62,17 @@ module _ {digits : List ℕ} (e : digits ≡ frameDigits) where
 unfoldable pub rowFrames : List ℕ → ℕ → ℕ → ℕ
 rowFrames t start m = sum (λ b. framesIn (rowState t start b)) m
 
+-- the frames of four entries, the first at this place
+unfoldable pub fourFrames : List ℕ → ℕ → ℕ
+fourFrames t at = framesIn (getD t at 0) + framesIn (getD t (at + 3) 0) + (framesIn (getD t (at + 6) 0) + framesIn (getD t (at + 9) 0))
+
+pub four-read :
+    (t : List ℕ) (at : ℕ) {f₀ f₁ f₂ f₃ : ℕ}
+    → f₀ ≡ framesIn (getD t at 0) → f₁ ≡ framesIn (getD t (at + 3) 0) → f₂ ≡ framesIn (getD t (at + 6) 0) → f₃ ≡ framesIn (getD t (at + 9) 0)
+    → f₀ + f₁ + (f₂ + f₃) ≡ fourFrames t at
+unfolding fourFrames
+four-read t at e₀ e₁ e₂ e₃ = rw (e₀, e₁, e₂, e₃) refl
+
 module _ (t : List ℕ) (start : ℕ) where
   pub row-frames-none : 0 ≡ rowFrames t start 0
   unfolding rowFrames
@@ -81,12 +87,14 @@ module _ (t : List ℕ) (start : ℕ) where
   row-frames-next m h a e = sum-next _ m h (e ∙ ap framesIn (row-read t start m a refl))
 
   pub row-frames-four :
-      (m m′ : ℕ) {n at f₀ f₁ f₂ f₃ : ℕ} → n ≡ rowFrames t start m → at ≡ start + 3 * m → m + 4 ≡ m′
-      → f₀ ≡ framesIn (getD t at 0) → f₁ ≡ framesIn (getD t (at + 3) 0) → f₂ ≡ framesIn (getD t (at + 6) 0) → f₃ ≡ framesIn (getD t (at + 9) 0)
-      → n + (f₀ + f₁ + (f₂ + f₃)) ≡ rowFrames t start m′
-  row-frames-four m m′ h a e e₀ e₁ e₂ e₃ =
-      let four = row-frames-next (m + 1 + 1 + 1) (row-frames-next (m + 1 + 1) (row-frames-next (m + 1) (row-frames-next m h a e₀) (omega arith) e₁) (omega arith) e₂) (omega arith) e₃ in
-      omega (arith, row-frames-at (m + 1 + 1 + 1 + 1) m′ four (omega arith))
+      (m m′ : ℕ) {n at f : ℕ} → n ≡ rowFrames t start m → at ≡ start + 3 * m → m + 4 ≡ m′ → f ≡ fourFrames t at → n + f ≡ rowFrames t start m′
+  unfolding fourFrames
+  row-frames-four m m′ {at = at} h a e k =
+      let one = row-frames-next m h a refl in
+      let two = row-frames-next (m + 1) {at = at + 3} one (omega arith) refl in
+      let three = row-frames-next (m + 1 + 1) {at = at + 6} two (omega arith) refl in
+      let four = row-frames-next (m + 1 + 1 + 1) {at = at + 9} three (omega arith) refl in
+      omega (arith, k, row-frames-at (m + 1 + 1 + 1 + 1) m′ four (omega arith))
 
 -- ---- the row of a node
 

@@ -2,8 +2,8 @@
 ghost use mathlib.Core.Path.{_≡_};
 ghost use Prim.Native.Nat.{_+_, _*_, _/_, _<_, _≤_};
 ghost use lib.ListN.{length};
-ghost use Rattle.entries.specs.Frames.{setsOf, setOf, setFrames, frameOf, framesIn, framesAt, used, framesFit};
-ghost use Rattle.entries.specs.RowFrames.{frameDigits, rowFrames};
+ghost use Rattle.entries.specs.Frames.{setsOf, setOf, setFrames, frameOf, framesIn, framesAt, used, framesFit, frameFree, ampleFor, frameFreeBy};
+ghost use Rattle.entries.specs.RowFrames.{frameDigits, fourFrames, rowFrames};
 ghost use Rattle.table.specs.View.{view};
 use table::geometry::Geometry;
 
@@ -68,6 +68,18 @@ fn frames_by(digits: &[u8], state: u64) -> usize
     digit as usize - 48
 }
 
+// The frames of four entries, one after another.
+fn four_frames(digits: &[u8], table: &[u64], at: usize) -> usize
+    requires { ⌜ (now digits ≡ frameDigits) × (at + 9 < length (now table)) ⌝ }
+    ensures { λ r. ⌜ (r ≡ fourFrames (now (table .entry)) at) × (r ≤ 8) ⌝ }
+{
+    let first = frames_by(digits, table[at]);
+    let second = frames_by(digits, table[at + 3]);
+    let third = frames_by(digits, table[at + 6]);
+    let fourth = frames_by(digits, table[at + 9]);
+    (first + second) + (third + fourth)
+}
+
 // The frames of the entries of a row four by four, as far as that goes.
 fn fours_frames(table: &[u64], start: usize, items: u16) -> usize
     requires { ⌜ (start < 1000000000) × (start + 3 * items ≤ length (now table)) ⌝ }
@@ -78,11 +90,7 @@ fn fours_frames(table: &[u64], start: usize, items: u16) -> usize
     let mut n: usize = 0;
     let mut at = start;
     while at < end {
-        let first = frames_by(digits, table[at]);
-        let second = frames_by(digits, table[at + 3]);
-        let third = frames_by(digits, table[at + 6]);
-        let fourth = frames_by(digits, table[at + 9]);
-        n += (first + second) + (third + fourth);
+        n += four_frames(digits, table, at);
         at += 12;
     }
     n
@@ -145,4 +153,38 @@ pub fn frames_fit(table: &[u64], g: Geometry, node: u8) -> bool
         set += 1;
     }
     ok
+}
+
+// Whether a node has a frame for both places of every item, and this is one of them.
+pub fn ample(g: Geometry, item: u16) -> bool
+    ensures { λ r. ⌜ r ≡ ampleFor g item ⌝ }
+{
+    let items = g.items;
+    let frames = set_frames(g);
+    (item < items) & (2 * (items as usize) <= frames)
+}
+
+// Whether a node has a frame free for an item whose entry has this state word: counted only where that does not tell.
+pub fn frame_free_by(table: &[u64], g: Geometry, node: u8, item: u16, state: u64) -> bool
+    ensures { λ r. ⌜ r ≡ frameFreeBy g (view g (now (table .entry))) node item state ⌝ }
+{
+    let ample = ample(g, item);
+    let current = table::words::current_of(state);
+    let kept = table::words::kept_of(state);
+    let told = ample & ((current == 0) | (kept == 0));
+    if told {
+        return true;
+    }
+    let set = set_of(g, item);
+    let used = used_in(table, g, node, set);
+    let frames = set_frames(g);
+    used < frames
+}
+
+// Whether a node has a frame free for an item.
+pub fn frame_free(table: &[u64], g: Geometry, node: u8, item: u16) -> bool
+    ensures { λ r. ⌜ r ≡ frameFree g (view g (now (table .entry))) node item ⌝ }
+{
+    let state = table::stores::state_at(table, g, node, item);
+    frame_free_by(table, g, node, item, state)
 }

@@ -1,16 +1,17 @@
 -- What Read, Write and Evict ask of a node and an item: "4; 5 item ≥ M; 6 node dead; 7 checkpoint open (phase 1)"; and of a frame: "9".
 use Prim.Native.Nat.{ℕ, _<_}
-use mathlib.Core.Path.{_≡_, refl, ap, ap₂, _∙_}
-use mathlib.Core.Bool.{Bool, true, false, cond, _&&_}
+use mathlib.Core.Path.{_≡_, refl}
+use mathlib.Core.Bool.{Bool, true, false, cond, _&&_, not}
 use native.Mathlib.Omega.{arith}
 use lib.Dec.{leb, eqb}
-use borrow.Author.Tests.{leb-false, eqb-false}
+use borrow.Author.Tests.{leb-true, leb-false, eqb-false, lt-ltb, le-ltb}
+use Rattle.counting.specs.Tests.{by-cases}
 use Rattle.table.specs.declared.geometry.Geometry.{Geometry}
 use Rattle.table.specs.declared.answers.Refusal.{Refusal}
 use Rattle.table.specs.declared.answers.Refusal.the-variants.{NoNode, NoItem, DeadNode, CheckpointOpen, NoFrame}
 use Rattle.table.specs.Words.{phaseOf}
 use Rattle.table.specs.View.{View}
-use Rattle.entries.specs.Frames.{setOf, setFrames, used}
+use Rattle.entries.specs.Frames.{setOf, setFrames, used, frameFree}
 use Rattle.homes.specs.declared.admission.Admission.{Admission}
 use Rattle.homes.specs.declared.admission.Admission.the-variants.{Admitted, Turned}
 
@@ -92,6 +93,8 @@ module _ (g : Geometry) (v : View) (n b : ℕ) {needed : Bool} where
   unfolding frameFull
   frame-spared h = rw h refl
 
-  pub frame-asked : needed ≡ true → {set u f : ℕ} → set ≡ setOf g b → u ≡ used g v n set → f ≡ setFrames g → leb f u ≡ frameFull g v n b needed
+  pub frame-asked : needed ≡ true → {free : Bool} → free ≡ frameFree g v n b → not free ≡ frameFull g v n b needed
   unfolding frameFull
-  frame-asked h p q r = rw h (ap₂ (λ f u. leb f u) r (q ∙ ap (used g v n) p))
+  frame-asked h p = rw (h, p) (by-cases (leb (setFrames g) (used g v n (setOf g b)))
+      (λ e. rw (e, le-ltb _ _ (leb-true _ _ e)) refl)
+      (λ e. rw (e, lt-ltb _ _ (leb-false _ _ e)) refl))

@@ -11,7 +11,7 @@ use lib.ListN.{length}
 use borrow.Author.Tests.{eqb-true, eqb-false, eq-eqb, ne-eqb}
 use Rattle.counting.specs.Tests.{both, either, by-cases}
 use Rattle.table.specs.declared.geometry.Geometry.{Geometry}
-use Rattle.table.specs.Words.{invalid, shared, current-state, kept-state}
+use Rattle.table.specs.Words.{keptOf, invalid, shared, current-state, kept-state}
 use Rattle.table.specs.Forms.{form-facts}
 use Rattle.table.specs.Stores.{Store, entryStore, stateTo, after, All, none, all-then}
 use Rattle.table.specs.View.{View, view, live, current, kept}
@@ -46,9 +46,9 @@ unfolding homeStoresBy dropStores
 home-off g place h b code value a = go (a .takeover) (a .drops)
   where
     go : (q r : Bool) → All (Off g) (cond q (entryStore h b (stateTo code (a .kept)) ∷ [])
-        (cond r (entryStore h (a .dropped) (stateTo invalid (a .beside)) ∷ []) [] ++ map (entryStore h b) (arrivalChanges place code value a)))
+        (cond r (entryStore h (a .dropped) (stateTo invalid (keptOf (a .beside))) ∷ []) [] ++ map (entryStore h b) (arrivalChanges place code value a)))
     go true r = entry-off g h b (stateTo code (a .kept) ∷ [])
-    go false true = all-then (entry-off g h (a .dropped) (stateTo invalid (a .beside) ∷ [])) (entry-off g h b (arrivalChanges place code value a))
+    go false true = all-then (entry-off g h (a .dropped) (stateTo invalid (keptOf (a .beside)) ∷ [])) (entry-off g h b (arrivalChanges place code value a))
     go false false = entry-off g h b (arrivalChanges place code value a)
 
 pub evict-off : (g : Geometry) (v : View) (place : Place) (n b : ℕ) → All (Off g) (evictStores g v place n b)

@@ -4,11 +4,11 @@ use mathlib.Core.Bool.{Bool, cond, _&&_, _||_}
 use mathlib.Core.List.{List, [], _∷_, _++_, map}
 use lib.Dec.{eqb, ltb}
 use Rattle.table.specs.declared.geometry.Geometry.{Geometry}
-use Rattle.table.specs.Words.{invalid, shared}
+use Rattle.table.specs.Words.{keptOf, invalid, shared}
 use Rattle.table.specs.Stores.{Store, Change, entryStore, stateTo, valueTo, keptTo}
 use Rattle.table.specs.View.{Entry, View, current, kept, live}
 use Rattle.counting.specs.First.{first}
-use Rattle.entries.specs.Frames.{setOf, setFrames, used}
+use Rattle.entries.specs.Frames.{frameFree}
 use Rattle.homes.specs.declared.places.Place.{Place}
 use Rattle.homes.specs.declared.places.Place.the-variants.{Current, Kept}
 use Rattle.homes.specs.declared.home.Arrival.{Arrival}
@@ -25,7 +25,7 @@ sharedItem g v h = first (sharedAt v h) (g .items)
 
 -- "it has used < F": in the set of the item b whose copy is to come
 unfoldable pub hasFrame : Geometry → View → ℕ → ℕ → Bool
-hasFrame g v h b = ltb (used g v h (setOf g b)) (setFrames g)
+hasFrame g v h b = frameFree g v h b
 
 -- "it has used < F or drops its Shared copy of the lowest-numbered item"
 unfoldable pub hasRoom : Geometry → View → ℕ → ℕ → Bool
@@ -81,7 +81,7 @@ arrivalOf g v place h b = record {
   takeover = takenOver place (v .entry h b);
   drops = ltb (droppedItem g v h b) (g .items);
   dropped = droppedItem g v h b;
-  beside = kept (v .entry h (droppedItem g v h b));
+  beside = v .entry h (droppedItem g v h b) .state;
   current = currentLeft (current (v .entry h b)) (droppedItem g v h b) b;
   kept = kept (v .entry h b);
 }
@@ -90,7 +90,7 @@ arrivalOf g v place h b = record {
 
 -- "drops its Shared copy of the lowest-numbered item (one store, first)"
 unfoldable pub dropStores : ℕ → Arrival → List Store
-dropStores h a = cond (a .drops) (entryStore h (a .dropped) (stateTo invalid (a .beside)) ∷ []) []
+dropStores h a = cond (a .drops) (entryStore h (a .dropped) (stateTo invalid (keptOf (a .beside))) ∷ []) []
 
 -- "then value, state"
 unfoldable pub arrivalChanges : Place → ℕ → ℕ → Arrival → List Change

@@ -11,9 +11,9 @@ use Rattle.table.specs.declared.geometry.Geometry.{Geometry}
 use Rattle.table.specs.Words.{currentOf, keptOf, invalid, shared}
 use Rattle.table.specs.Stores.{Stored, StoredIn, entryStore, stateTo, valueTo, keptTo, stored-then, stored-two, stored-as}
 use Rattle.table.specs.View.{View}
-use Rattle.counting.specs.Tests.{by-cases}
+use Rattle.counting.specs.Tests.{by-cases, or-left, or-right}
 use Rattle.counting.specs.First.{first, first-turns, first-found}
-use Rattle.entries.specs.Frames.{setOf, setFrames, used}
+use Rattle.entries.specs.Frames.{frameFree, ampleFor, halfFree, frameFreeBy, ample-free, free-by}
 use Rattle.homes.specs.declared.places.Place.{Place}
 use Rattle.homes.specs.declared.places.Place.the-variants.{Current, Kept}
 use Rattle.homes.specs.declared.home.Arrival.{Arrival}
@@ -37,10 +37,18 @@ shared-none g v h b k l none = let e : b ≡ g .items = omega arith in sym (rw e
 
 -- ---- room
 
-pub frame-free-at :
-    (g : Geometry) (v : View) (h b : ℕ) {set u f : ℕ} → set ≡ setOf g b → u ≡ used g v h set → f ≡ setFrames g → ltb u f ≡ hasFrame g v h b
+-- frames are ample, where a place of the entry is Invalid
+pub room-ample : (g : Geometry) (v : View) (h b : ℕ) {ample : Bool} → ample ≡ ampleFor g b → ample ≡ true → halfFree (v .entry h b .state) ≡ true → true ≡ hasRoom g v h b
+unfolding hasRoom hasFrame
+room-ample g v h b p e k = sym (or-left _ (ample-free g v h b (sym p ∙ e) k))
+
+pub free-framed : (g : Geometry) (v : View) (h b : ℕ) {framed : Bool} → framed ≡ frameFree g v h b → framed ≡ hasFrame g v h b
 unfolding hasFrame
-frame-free-at g v h b p q r = ap₂ ltb (q ∙ ap (used g v h) p) r
+free-framed g v h b p = p
+
+pub told-framed :
+    (g : Geometry) (v : View) (h b : ℕ) {framed : Bool} {w : ℕ} → framed ≡ frameFreeBy g v h b w → w ≡ v .entry h b .state → framed ≡ hasFrame g v h b
+told-framed g v h b p e = free-framed g v h b (p ∙ free-by g v h b e)
 
 module _ (g : Geometry) (v : View) (h b : ℕ) {framed : Bool} (p : framed ≡ hasFrame g v h b) where
   pub room-framed : framed ≡ true → true ≡ hasRoom g v h b
@@ -68,6 +76,12 @@ place-fits :
 unfolding placeFits
 place-fits g v Current b h = refl
 place-fits g v Kept b h = refl
+
+-- a place that is Invalid leaves the entry at most one frame
+pub place-half : (place : Place) {w x code : ℕ} → w ≡ x → code ≡ codeOf place w → code ≡ invalid → halfFree x ≡ true
+unfolding halfFree
+place-half Current p q e = rw (← p, ← q, e) refl
+place-half Kept {w} p q e = rw (← p) (or-right (eqb (currentOf w) 0) (eq-eqb (keptOf w) 0 (sym q ∙ e)))
 
 module _ (g : Geometry) (v : View) (place : Place) (b h : ℕ) {w : ℕ} (p : w ≡ v .entry h b .state) {over : Bool} (q : over ≡ sharedIn place w) where
   pub place-over : over ≡ true → true ≡ placeFits g v place b h
@@ -187,19 +201,19 @@ module _ (c dropped b : ℕ) where
   left-stays e = rw (ne-eqb dropped b e) refl
 
 pub arrival-read :
-    (g : Geometry) (v : View) (place : Place) (h b : ℕ) {w d x c c′ k s : ℕ} {over : Bool}
-    → w ≡ v .entry h b .state → over ≡ sharedIn place w → d ≡ droppedItem g v h b → x ≡ v .entry h d .state → s ≡ keptOf x
+    (g : Geometry) (v : View) (place : Place) (h b : ℕ) {w d x c c′ k : ℕ} {over : Bool}
+    → w ≡ v .entry h b .state → over ≡ sharedIn place w → d ≡ droppedItem g v h b → x ≡ v .entry h d .state
     → c ≡ currentOf w → c′ ≡ currentLeft c d b → k ≡ keptOf w
-    → record { takeover = over; drops = ltb d (g .items); dropped = d; beside = s; current = c′; kept = k } ≡ arrivalOf g v place h b
+    → record { takeover = over; drops = ltb d (g .items); dropped = d; beside = x; current = c′; kept = k } ≡ arrivalOf g v place h b
 unfolding arrivalOf
-arrival-read g v place h b p q r x y c l k = rw (q, y, x, l, c, k, p, r) refl
+arrival-read g v place h b p q r x c l k = rw (q, x, l, c, k, p, r) refl
 
 -- ---- the home's stores
 
 module _ (h : ℕ) (a : Arrival) where
-  pub drop-made : a .drops ≡ true → dropStores h a ≡ entryStore h (a .dropped) (stateTo invalid (a .beside)) ∷ []
+  pub drop-made : a .drops ≡ true → {k : ℕ} → k ≡ keptOf (a .beside) → dropStores h a ≡ entryStore h (a .dropped) (stateTo invalid k) ∷ []
   unfolding dropStores
-  drop-made e = rw e refl
+  drop-made e q = rw (e, q) refl
 
   pub drop-none : a .drops ≡ false → dropStores h a ≡ []
   unfolding dropStores

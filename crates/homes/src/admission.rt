@@ -40,8 +40,6 @@ pub fn frame_full(table: &[u64], g: Geometry, node: u8, item: u16, needed: bool)
     if !needed {
         return false;
     }
-    let set = entries::frames::set_of(g, item);
-    let used = entries::frames::used_in(table, g, node, set);
-    let frames = entries::frames::set_frames(g);
-    frames <= used
+    let free = entries::frames::frame_free(table, g, node, item);
+    !free
 }

@@ -1,22 +1,24 @@
 // The home of a copy that leaves a node, and what is stored there.
 ghost use mathlib.Core.Path.{_≡_};
+ghost use mathlib.Core.Bool.{true};
 ghost use Prim.Native.Nat.{_<_};
 ghost use Rattle.table.specs.Stores.{Stored, StoredIn};
 ghost use Rattle.table.specs.View.{view};
-ghost use Rattle.homes.specs.Home.{sharedItem, hasFrame, hasRoom, placeFits, fits, droppedItem, currentLeft, arrivalOf, dropStores, arrivalChanges, homeStoresBy};
+ghost use Rattle.entries.specs.Frames.{halfFree};
+ghost use Rattle.homes.specs.Home.{sharedItem, hasRoom, placeFits, fits, droppedItem, currentLeft, arrivalOf, dropStores, arrivalChanges, homeStoresBy};
 ghost use Rattle.homes.specs.HomeCode.{nextNode, HomeFound};
 use crate::places::Place;
 use table::geometry::Geometry;
 use table::words::INVALID;
 use table::words::SHARED;
 
-// What a home makes of a copy that comes: whether it takes it over; whether it drops a Shared copy first, of which item, and the kept
-// place beside it; its own places of the copy's item from then on.
+// What a home makes of a copy that comes: whether it takes it over; whether it drops a Shared copy first, of which item, and the state
+// word that it is dropped from; its own places of the copy's item from then on.
 pub struct Arrival {
     pub takeover: bool,
     pub drops: bool,
     pub dropped: u16,
-    pub beside: u8,
+    pub beside: u64,
     pub current: u8,
     pub kept: u8,
 }
@@ -37,21 +39,16 @@ fn shared_item(table: &[u64], g: Geometry, h: u8) -> u16
     items
 }
 
-// Whether a node has a frame free for an item.
-fn has_frame(table: &[u64], g: Geometry, h: u8, item: u16) -> bool
-    ensures { λ r. ⌜ r ≡ hasFrame g (view g (now (table .entry))) h item ⌝ }
-{
-    let set = entries::frames::set_of(g, item);
-    let used = entries::frames::used_in(table, g, h, set);
-    let frames = entries::frames::set_frames(g);
-    used < frames
-}
-
-// Whether a node has a frame free for an item, or a Shared copy to drop.
+// Whether a node has a frame free for an item, or a Shared copy to drop; asked where a place of its entry is Invalid.
 fn has_room(table: &[u64], g: Geometry, h: u8, item: u16) -> bool
+    requires { ⌜ halfFree (view g (now table) .entry h item .state) ≡ true ⌝ }
     ensures { λ r. ⌜ r ≡ hasRoom g (view g (now (table .entry))) h item ⌝ }
 {
-    let framed = has_frame(table, g, h, item);
+    let ample = entries::frames::ample(g, item);
+    if ample {
+        return true;
+    }
+    let framed = entries::frames::frame_free(table, g, h, item);
     if framed {
         return true;
     }
@@ -120,11 +117,12 @@ pub fn home_of(table: &[u64], g: Geometry, place: Place, node: u8, item: u16) ->
     h
 }
 
-// The item whose Shared copy a home drops, or the number of items if it has a frame.
-fn dropped_item(table: &[u64], g: Geometry, h: u8, item: u16) -> u16
+// The item whose Shared copy a home drops, or the number of items if it has a frame; `state` is the state word of its entry.
+fn dropped_item(table: &[u64], g: Geometry, h: u8, item: u16, state: u64) -> u16
+    requires { ⌜ state ≡ view g (now table) .entry h item .state ⌝ }
     ensures { λ r. ⌜ r ≡ droppedItem g (view g (now (table .entry))) h item ⌝ }
 {
-    let framed = has_frame(table, g, h, item);
+    let framed = entries::frames::frame_free_by(table, g, h, item, state);
     if framed {
         return g.items;
     }
@@ -147,10 +145,10 @@ pub fn arrival_at(table: &[u64], g: Geometry, place: Place, h: u8, item: u16) ->
 {
     let state = table::stores::state_at(table, g, h, item);
     let takeover = crate::places::shared_in(place, state);
-    let dropped = dropped_item(table, g, h, item);
+    let dropped = dropped_item(table, g, h, item, state);
     let items = g.items;
     let drops = dropped < items;
-    let beside = table::words::kept_of(table::stores::state_at(table, g, h, dropped));
+    let beside = table::stores::state_at(table, g, h, dropped);
     let current = current_left(table::words::current_of(state), dropped, item);
     let kept = table::words::kept_of(state);
     Arrival {
@@ -169,7 +167,8 @@ fn drop_copy(table: &mut [u64], left: u64, g: Geometry, h: u8, a: Arrival) -> u6
 {
     let drops = a.drops;
     if drops {
-        return table::stores::store_state(table, left, g, h, a.dropped, INVALID, a.beside);
+        let beside = table::words::kept_of(a.beside);
+        return table::stores::store_state(table, left, g, h, a.dropped, INVALID, beside);
     }
     left
 }

@@ -14,25 +14,13 @@ Inv-loop table start items digits end n₀ at₀ n at =
 abbrev μ-loop : tie.MeasureT-loop
 μ-loop table start items digits end n₀ at₀ n at = end - at
 
+four-frames-requires : tie.Need-four-frames-requires Inv-loop μ-loop
+four-frames-requires c κs = (refl, omega arith)
+
 loop-again : tie.Need-loop-again Inv-loop μ-loop
 loop-again c =
-    let third = c .before .before .before in
-    let second = third .before .before .before in
-    let first = second .before .before .before in
-    let i = first .before .before .before .before .loop .inv in (
-      i .0 + 1,
-      (
-        omega arith,
-        (
-          omega arith,
-          (
-            row-frames-four _ _ (4 * i .0) (4 * (i .0 + 1)) (i .1 .1 .1 .0) (omega arith) (omega arith)
-                (first .frames-by .ensures .0) (second .frames-by2 .ensures .0) (third .frames-by3 .ensures .0) (c .frames-by4 .ensures .0),
-            omega arith,
-          ),
-        ),
-      ),
-    )
+    let i = c .before .before .before .loop .inv in
+    (i .0 + 1, (omega arith, (omega arith, (row-frames-four _ _ (4 * i .0) (4 * (i .0 + 1)) (i .1 .1 .1 .0) (omega arith) (omega arith) (c .four-frames .ensures .0), omega arith))))
 
 returns : tie.Need-returns Inv-loop μ-loop
 returns c = let i = c .before .loop .inv in (row-frames-at _ _ (4 * i .0) _ (i .1 .1 .1 .0) (omega arith), omega arith)
@@ -47,24 +35,7 @@ fours-frames-spec =
     (λ c. search needs)
     (λ c. search needs)
     (λ c. (0, (search needs, (search needs, (row-frames-none _ _, search needs)))))
-    (λ c. search needs)
-    (λ c. search needs)
-    (λ c κs. refl)
-    (λ c. search needs)
-    (λ c. search needs)
-    (λ c. search needs)
-    (λ c κs. refl)
-    (λ c. search needs)
-    (λ c. search needs)
-    (λ c. search needs)
-    (λ c κs. refl)
-    (λ c. search needs)
-    (λ c. search needs)
-    (λ c. search needs)
-    (λ c κs. refl)
-    (λ c. search needs)
-    (λ c. search needs)
-    (λ c. search needs)
+    four-frames-requires
     (λ c. search needs)
     (λ c. search needs)
     (λ c. search needs)

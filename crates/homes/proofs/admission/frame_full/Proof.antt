@@ -11,6 +11,4 @@ frame-full-spec =
     (tie.spec
     (λ c. frame-spared _ _ _ _ (not-true _ (c .if1 .taken)))
     (λ c κs. search needs)
-    (λ c κs. search needs)
-    (λ c κs. search needs)
-    (λ c. let u = c .before in let s = u .before in frame-asked _ _ _ _ (not-false _ (s .before .if1 .left)) (s .set-of .ensures) (u .used-in .ensures) (c .set-frames .ensures)))
+    (λ c. frame-asked _ _ _ _ (not-false _ (c .before .if1 .left)) (c .frame-free .ensures)))
