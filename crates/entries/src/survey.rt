@@ -1,7 +1,6 @@
 // The survey of a table by rows, in memory order. Of each row the entries that hold something are gathered, and only these are looked at: each adds its
 // weight to its item's tally, and its values are compared with the first that the item had.
 ghost use mathlib.Core.Path.{_≡_};
-ghost use mathlib.Core.Bool.{cond};
 ghost use Prim.Native.Nat.{_+_, _*_, _/_, _%_, _^_, _<_, _≤_};
 ghost use lib.ListN.{length, getD};
 ghost use Rattle.table.specs.View.{view};
@@ -12,6 +11,7 @@ ghost use Rattle.entries.specs.SurveyGather.{Gathering, GatheredMore};
 ghost use Rattle.entries.specs.SurveySound.{fitsTest, RowFrames, Surveyable, Surveying, RowSurveyed, RowsSurveyed};
 ghost use Rattle.entries.specs.SurveyDirty.{KindsFound, Found};
 use crate::frames;
+use counting::choice;
 use table::geometry::Geometry;
 use table::stores;
 
@@ -107,16 +107,6 @@ fn occupied(table: &[u64], start: usize, items: u16, list: &mut [u16]) -> usize
     count
 }
 
-// One of two numbers, by a test.
-fn either(test: bool, yes: u64, no: u64) -> u64
-    ensures { λ r. ⌜ r ≡ cond test yes no ⌝ }
-{
-    if test {
-        return yes;
-    }
-    no
-}
-
 // Notes one entry.
 fn note_entry(table: &[u64], at: usize, j: usize, notes: &mut [u64]) -> Turn
     requires { ⌜ (at + 2 < length (now table)) × ((j + 2 < length (now notes)) × (getD (now notes) j 0 + weightOf (topOf (getD (now table) at 0)) < 2 ^ 64)) ⌝ }
@@ -129,13 +119,13 @@ fn note_entry(table: &[u64], at: usize, j: usize, notes: &mut [u64]) -> Turn
     let first = notes[j + 1];
     let kept_first = notes[j + 2];
     let weight = weight((state / 0x400_0000_0000_0000) as u8);
-    let first = either(tally % 32 == 0, value, first);
-    let kept_first = either(tally / 32 % 1024 == 0, kept_value, kept_first);
+    let first = choice::either(tally % 32 == 0, value, first);
+    let kept_first = choice::either(tally / 32 % 1024 == 0, kept_value, kept_first);
     notes[j] = tally + weight;
     notes[j + 1] = first;
     notes[j + 2] = kept_first;
-    let met = either(weight % 32 == 0, first, value);
-    let kept_met = either(weight / 32 % 1024 == 0, kept_first, kept_value);
+    let met = choice::either(weight % 32 == 0, first, value);
+    let kept_met = choice::either(weight / 32 % 1024 == 0, kept_first, kept_value);
     Turn {
         frames: weight / 0x2000_0000_0000,
         same: (first == met) & ((kept_first == kept_met) & (state % 0x400_0000_0000_0000 == 0)),
@@ -241,7 +231,7 @@ fn kinds_sound(notes: &[u64], items: u16, phase: u64) -> Findings
         let tally = notes[at];
         let good = kind_sound(tally, created);
         sound = good & sound;
-        dirty = either(tally / 0x8000 % 1024 == 0, dirty, item as u64);
+        dirty = choice::either(tally / 0x8000 % 1024 == 0, dirty, item as u64);
     }
     Findings { sound, dirty }
 }

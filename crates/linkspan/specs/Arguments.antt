@@ -8,8 +8,8 @@ use borrow.Author.Tests.{lt-ltb, le-ltb}
 use Rattle.homes.specs.declared.places.Place.{Place}
 use Rattle.homes.specs.Places.{placeBy}
 use Rattle.homes.specs.Evict.{evictOf}
-use Rattle.recovery.specs.declared.lost.Lost.{Lost}
-use Rattle.recovery.specs.Lost.{lostBy}
+use Rattle.survivors.specs.declared.lost.Lost.{Lost}
+use Rattle.survivors.specs.Lost.{lostBy}
 use Rattle.recovery.specs.Recover.{recoverOf}
 use Rattle.linkspan.specs.Report.{Asked, malformed, planned}
 

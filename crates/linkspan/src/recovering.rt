@@ -21,7 +21,7 @@ pub extern "C" fn linkspan_recover(
     if 1 < none {
         return report::malformed(value, stores);
     }
-    let node = recovery::lost::lost_by(none, lost);
+    let node = survivors::lost::lost_by(none, lost);
     let answer = recovery::recover::recover(table, node, scratch, limit);
     report::report(answer, value, stores)
 }

@@ -17,11 +17,12 @@ use Rattle.entries.specs.Frames.{setsOf, framesFit}
 use Rattle.entries.specs.Sound.{marksForm, statesForm, nodeSound, nodesSound}
 use Rattle.homes.specs.Kept.{Live, live-test, test-live}
 use Rattle.homes.specs.Serves.{Serves}
-use Rattle.recovery.specs.declared.lost.Lost.{Lost}
+use Rattle.survivors.specs.declared.lost.Lost.{Lost}
 use Rattle.counting.specs.Exists.{exists, exists-at, not-exists}
-use Rattle.recovery.specs.Survivors.{survivors}
-use Rattle.recovery.specs.Sides.{forwardIn, hasCopy, copiesOn, itemFits, itemsFit}
-use Rattle.recovery.specs.ClosingMarks.{largestNumber}
+use Rattle.survivors.specs.Survivors.{survivors}
+use Rattle.recovery.specs.Sides.{hasCopy, copiesOn, itemFits, itemsFit}
+use Rattle.survivors.specs.Direction.{forwardIn}
+use Rattle.survivors.specs.ClosingMarks.{largestNumber}
 use Rattle.recovery.specs.Recover.{survivorsFormed, recoverOf}
 use Rattle.recovery.specs.RecoverPlan.{Carries, recover-carries}
 use Rattle.recovery.specs.Ready.{Holds, Ready}

@@ -26,13 +26,9 @@ use Rattle.recovery.specs.Sides.{copyOn, itemFits}
 use Rattle.recovery.specs.SidesCode.{copiesTo}
 use Rattle.recovery.specs.Tallies.{plain}
 use Rattle.recovery.specs.RowsSound.{RowTo}
-use Rattle.recovery.specs.Notes.{numberWeight, stepOf, firstMet, agreesMet, NotedTo, Noted, equalTo}
+use Rattle.recovery.specs.Notes.{hasOn, numberWeight, stepOf, firstMet, agreesMet, NotedTo, Noted, equalTo}
 
 -- ---- an entry
-
--- an entry has a recovery copy on a side
-abbrev pub hasOn : Bool → Entry → Bool
-hasOn forward e = not (eqb (copyNumber (copyOn forward e)) 0)
 
 -- the number of the recovery copy on a side by the current and the kept code, and 1 if it is the kept one, else 0; forward, the state table takes a code
 -- modulo 8, so that codes 12 to 15 have a number too

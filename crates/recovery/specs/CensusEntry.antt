@@ -22,8 +22,8 @@ use Rattle.entries.specs.SurveyWeight.{among, Unlike, unlike-among}
 use Rattle.entries.specs.SurveySound.{form-parts}
 use Rattle.checkpoints.specs.Forward.{forward-value}
 use Rattle.recovery.specs.Sides.{copyOn}
-use Rattle.recovery.specs.Notes.{numberWeight, number-small}
-use Rattle.recovery.specs.Census.{hasOn, numberOn, placeOn, sideBits, Weighed, entryFrom, EntryNoted}
+use Rattle.recovery.specs.Notes.{hasOn, numberWeight, number-small}
+use Rattle.recovery.specs.Census.{numberOn, placeOn, sideBits, Weighed, entryFrom, EntryNoted}
 
 pub frames-small : (w : ℕ) → framesIn w ≤ 2
 unfolding framesIn

@@ -10,7 +10,7 @@ use lib.ListN.{length, getD, set, length-set}
 use lib.Seq.{getD-set-same, getD-set-other}
 use borrow.Author.Tests.{lt-ltb, eq-eqb, ne-eqb}
 use Rattle.counting.specs.Tests.{by-cases, and-both, and-true, no-both}
-use Rattle.counting.specs.Counting.{every, sum, sum-none, sum-next, one, count, count-none, count-next, count-le}
+use Rattle.counting.specs.Counting.{every, sum, sum-none, sum-next, one, count, count-none, count-next}
 use Rattle.table.specs.declared.geometry.Geometry.{Geometry}
 use Rattle.table.specs.Geometry.{entryAt, Placed, product}
 use Rattle.table.specs.Words.{markForm}
@@ -18,19 +18,19 @@ use Rattle.table.specs.View.{Entry, View, view, live, entry-read}
 use Rattle.table.specs.Copies.{copyNumber}
 use Rattle.entries.specs.Frames.{setFrames, framesIn}
 use Rattle.entries.specs.Sound.{marksForm, nodeSound, nodesSound, node-dead}
-use Rattle.recovery.specs.declared.lost.Lost.{Lost}
+use Rattle.survivors.specs.declared.lost.Lost.{Lost}
 use Rattle.recovery.specs.declared.census.Turn.{Turn}
 use Rattle.recovery.specs.declared.census.Note.{Note}
 use Rattle.recovery.specs.declared.census.Found.{Found}
 use Rattle.recovery.specs.declared.census.Kinds.{Kinds}
 use Rattle.recovery.specs.Recover.{survivorsFormed}
-use Rattle.recovery.specs.Survivors.{survivors}
-use Rattle.recovery.specs.SurvivorsCode.{survivor-entry}
+use Rattle.survivors.specs.Survivors.{survivors}
+use Rattle.survivors.specs.SurvivorsCode.{survivor-entry}
 use Rattle.recovery.specs.Sides.{copyOn}
 use Rattle.recovery.specs.Rows.{stateIn, Listed, reached, reached-start, reached-next, listed-turn, listed-end, row-room}
 use Rattle.recovery.specs.RowsSound.{RowTo, row-start, row-turn, row-all, row-sound}
-use Rattle.recovery.specs.Notes.{numberWeight, stepOf, NotedTo, Notable, noted-start, noted-rooms, noted-same, noted-turn, noted-all, note-dead, note-live, equalTo, equal-dead, equal-live, number-blank, every-and, note-zeros, notes-fit}
-use Rattle.recovery.specs.Census.{hasOn, entryFrom, EntryNoted, RowReady, RowNoted, sideWeight, heldOn, Takable, CensusTo, NodeReady, NodeNoted, NodesNoted, KindsTold, TakenIn}
+use Rattle.recovery.specs.Notes.{hasOn, numberWeight, stepOf, NotedTo, Notable, noted-start, noted-rooms, noted-same, noted-turn, noted-all, note-dead, note-live, equalTo, equal-dead, equal-live, number-blank, every-and, note-zeros, notes-fit}
+use Rattle.recovery.specs.Census.{entryFrom, EntryNoted, RowReady, RowNoted, sideWeight, heldOn, Takable, CensusTo, NodeReady, NodeNoted, NodesNoted, KindsTold, TakenIn}
 
 -- ---- a row
 

@@ -27,10 +27,10 @@ use Rattle.checkpoints.specs.LivePass.{AllPassed, liveEach, entries-via}
 use Rattle.recovery.specs.Sides.{copyOn}
 use Rattle.recovery.specs.Rolling.{rollChange}
 use Rattle.recovery.specs.Numbering.{numberStores}
-use Rattle.recovery.specs.Notes.{numberWeight, stepOf}
+use Rattle.recovery.specs.Notes.{hasOn, numberWeight, stepOf}
 use Rattle.recovery.specs.Tallies.{copyWeight, nodesOf, tallyOf, Tallied, plain, plain-nothing}
 use Rattle.recovery.specs.NumberingCode.{Unkept}
-use Rattle.recovery.specs.Census.{hasOn, sideWeight, heldOn}
+use Rattle.recovery.specs.Census.{sideWeight, heldOn}
 use Rattle.recovery.specs.RollingCode.{runs-empty}
 use Rattle.recovery.specs.RecoverStages.{column-within}
 use Rattle.recovery.specs.PartnersCounts.{AgreesTo}

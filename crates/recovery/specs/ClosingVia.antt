@@ -16,9 +16,9 @@ use Rattle.table.specs.MarksPass.{Mixed, Marking, marks-via, marks-live, marksT
 use Rattle.entries.specs.Frames.{used, framesAt}
 use Rattle.entries.specs.Tally.{has}
 use Rattle.homes.specs.Kept.{Live, live-test, test-live}
-use Rattle.recovery.specs.ClosingMarks.{largest, largestNumber, closingStores}
+use Rattle.survivors.specs.ClosingMarks.{largest, largestNumber, closingStores}
 use Rattle.recovery.specs.Largest.{largest-at, largest-least, largest-stays}
-use Rattle.recovery.specs.Sides.{forwardIn}
+use Rattle.survivors.specs.Direction.{forwardIn}
 use Rattle.recovery.specs.PlainSides.{plain-sided}
 use Rattle.recovery.specs.Ready.{Ready, Going, Plain, HasOne, Paired}
 use Rattle.recovery.specs.Recovered.{Recovered}

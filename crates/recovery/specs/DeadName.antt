@@ -9,7 +9,7 @@ use Rattle.table.specs.declared.geometry.Geometry.{Geometry}
 use Rattle.table.specs.Geometry.{markAt}
 use Rattle.table.specs.Stores.{after, markStore}
 use Rattle.table.specs.View.{view, live, mark-read}
-use Rattle.recovery.specs.declared.lost.Lost.the-variants.{Nobody, Node}
+use Rattle.survivors.specs.declared.lost.Lost.the-variants.{Nobody, Node}
 use Rattle.recovery.specs.Recover.{survivorStores, recoverStores}
 use Rattle.recovery.specs.RecoveredSound.{dead-mark}
 use Rattle.recovery.specs.RecoverVia.{lost-again}

@@ -12,9 +12,9 @@ use Rattle.table.specs.Stores.{Change, Store, sizeStore, markStore, entryStore,
 use Rattle.table.specs.View.{View, view, update, updates}
 use Rattle.table.specs.ViewAfter.{Within, view-after}
 use Rattle.table.specs.Pass.{pass}
-use Rattle.recovery.specs.declared.lost.Lost.{Lost}
-use Rattle.recovery.specs.declared.lost.Lost.the-variants.{Nobody, Node}
-use Rattle.recovery.specs.Survivors.{survivors}
+use Rattle.survivors.specs.declared.lost.Lost.{Lost}
+use Rattle.survivors.specs.declared.lost.Lost.the-variants.{Nobody, Node}
+use Rattle.survivors.specs.Survivors.{survivors}
 
 -- nothing left: the same for another list
 pub stored-any :

@@ -1,16 +1,12 @@
 -- Recover.
 
 -- ---- Recover as document 01 lists it: definitions
-pub mod Lost
-pub mod Survivors
 pub mod Sides
 pub mod Rolling
 pub mod Numbering
 pub mod Partners
-pub mod ClosingMarks
 pub mod Recover
 -- ---- the ways of the code
-pub mod SurvivorsCode
 pub mod SidesCode
 pub mod Notes
 pub mod Rows
@@ -25,7 +21,6 @@ pub mod Followed
 pub mod PartnersCounts
 pub mod PartnersCode
 pub mod PartnersSkip
-pub mod ClosingMarksCode
 pub mod RecoverPlan
 pub mod RecoverStages
 pub mod RecoverCode

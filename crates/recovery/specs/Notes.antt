@@ -16,9 +16,9 @@ use Rattle.table.specs.declared.changes.Event.the-variants.{RollForward}
 use Rattle.table.specs.Changes.{changeOf, checkpointOf}
 use Rattle.table.specs.View.{Entry, View, current, kept}
 use Rattle.table.specs.Copies.{backBy, copyNumber, copyValue}
-use Rattle.recovery.specs.declared.lost.Lost.{Lost}
-use Rattle.recovery.specs.Survivors.{survivors}
-use Rattle.recovery.specs.SurvivorsCode.{survivor-entry}
+use Rattle.survivors.specs.declared.lost.Lost.{Lost}
+use Rattle.survivors.specs.Survivors.{survivors}
+use Rattle.survivors.specs.SurvivorsCode.{survivor-entry}
 use Rattle.recovery.specs.Sides.{copyOn, copiesOn, itemFits}
 use Rattle.recovery.specs.SidesCode.{copiesTo, copies-start, copies-next}
 use Rattle.recovery.specs.Rows.{stateIn, Listed, reached, reached-start, reached-next, listed-turn, listed-end, Rowed, rowed-none, rowed-blank, rowed-set}
@@ -41,8 +41,12 @@ agreesMet has tally first x = not has || (eqb tally 0 || eqb x first)
 
 -- ---- a node's recovery copies on a side
 
+-- an entry has one
+abbrev pub hasOn : Bool → Entry → Bool
+hasOn forward e = not (eqb (copyNumber (copyOn forward e)) 0)
+
 abbrev pub hasAt : Bool → View → ℕ → ℕ → Bool
-hasAt forward v n j = not (eqb (copyNumber (copyOn forward (v .entry n j))) 0)
+hasAt forward v n j = hasOn forward (v .entry n j)
 
 abbrev pub valueAt : Bool → View → ℕ → ℕ → ℕ
 valueAt forward v n j = copyValue (copyOn forward (v .entry n j))

@@ -21,14 +21,14 @@ use Rattle.table.specs.View.{Entry, View, view, live, current, kept}
 use Rattle.table.specs.Pass.{pass, grid-once}
 use Rattle.table.specs.PassLeaves.{pass-marks, pass-entry}
 use Rattle.entries.specs.Tally.{has}
-use Rattle.recovery.specs.declared.lost.Lost.{Lost}
+use Rattle.survivors.specs.declared.lost.Lost.{Lost}
 use Rattle.recovery.specs.declared.numbering.Holders.{Holders}
 use Rattle.recovery.specs.Followed.{stored-any}
-use Rattle.recovery.specs.Survivors.{survivors}
+use Rattle.survivors.specs.Survivors.{survivors}
 use Rattle.recovery.specs.Rolling.{sharedCK, settled}
 use Rattle.recovery.specs.Numbering.{holders, numberAfter, numberAt, numberChange, numberStores}
-use Rattle.recovery.specs.SurvivorsCode.{survivor-entry}
-use Rattle.recovery.specs.RollingCode.{survivor-marks, runs-empty}
+use Rattle.survivors.specs.SurvivorsCode.{survivor-entry, survivor-marks}
+use Rattle.recovery.specs.RollingCode.{runs-empty}
 use Rattle.recovery.specs.Tallies.{Tallied, plain, plain-nothing}
 
 -- ---- the copy of one node

@@ -12,13 +12,14 @@ use Rattle.table.specs.Geometry.{wordsOf}
 use Rattle.table.specs.Stores.{Store, Stored, All, stored-none}
 use Rattle.table.specs.View.{View, view, updates, live}
 use Rattle.checkpoints.specs.Checkpoint.{entriesTo}
-use Rattle.recovery.specs.declared.lost.Lost.{Lost}
-use Rattle.recovery.specs.Survivors.{survivors}
-use Rattle.recovery.specs.Sides.{forwardIn, itemsFit}
+use Rattle.survivors.specs.declared.lost.Lost.{Lost}
+use Rattle.survivors.specs.Survivors.{survivors}
+use Rattle.recovery.specs.Sides.{itemsFit}
+use Rattle.survivors.specs.Direction.{forwardIn}
 use Rattle.recovery.specs.Rolling.{rollChange, rollStores}
 use Rattle.recovery.specs.Numbering.{numberStores}
 use Rattle.recovery.specs.Partners.{partnersStores}
-use Rattle.recovery.specs.ClosingMarks.{largestNumber}
+use Rattle.survivors.specs.ClosingMarks.{largestNumber}
 use Rattle.recovery.specs.Recover.{survivorsFormed}
 use Rattle.recovery.specs.Tallies.{Tallied, plain, holders-told, holder-told}
 use Rattle.recovery.specs.NumberingCode.{Unkept, Numbering}

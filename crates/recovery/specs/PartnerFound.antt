@@ -24,8 +24,7 @@ use Rattle.homes.specs.Home.{hasFrame}
 use Rattle.homes.specs.HomeCode.{after-below}
 use Rattle.homes.specs.HomeLaws.{after-other, after-reaches}
 use Rattle.counting.specs.Crowded.{sum-at, sum-fewer, crowded}
-use Rattle.recovery.specs.Survivors.{survivorCount}
-use Rattle.recovery.specs.Recover.{tooFewWith, tooFew}
+use Rattle.survivors.specs.Survivors.{survivorCount, tooFewWith, tooFew}
 use Rattle.recovery.specs.Partners.{takes, takesAfter, partnerOf}
 use Rattle.recovery.specs.Ready.{Plain, Paired, Numbered, pair, alone}
 

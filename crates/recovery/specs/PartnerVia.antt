@@ -23,7 +23,7 @@ use Rattle.entries.specs.Kinds.{copy-code, copy-live, has-at, has-code, has-cop
 use Rattle.entries.specs.Update.{Elsewhere, only-gains, only-keeps}
 use Rattle.homes.specs.Kept.{Live, live-test, test-live}
 use Rattle.homes.specs.OneEntry.{OneAt, one-via, one-held}
-use Rattle.recovery.specs.Recover.{tooFew}
+use Rattle.survivors.specs.Survivors.{tooFew}
 use Rattle.recovery.specs.Rolling.{sharedCK}
 use Rattle.recovery.specs.Partners.{single, holderOf, partnerOf, partnerChanges, partnerFrom, partnerStores, partnersStores}
 use Rattle.recovery.specs.Ready.{PlainEntry, HasOne, Plain, Paired, Numbered, pair, alone}

@@ -19,8 +19,8 @@ use Rattle.table.specs.Stores.{entryStore, valueTo, stateTo}
 use Rattle.table.specs.View.{Entry, View, view, live, current, put₂, changed, updates}
 use Rattle.table.specs.Puts.{put₂-same, put₂-other}
 use Rattle.entries.specs.Frames.{frameOf, framesIn, framesAt, used, frames-state}
-use Rattle.recovery.specs.declared.lost.Lost.{Lost}
-use Rattle.recovery.specs.Survivors.{survivors}
+use Rattle.survivors.specs.declared.lost.Lost.{Lost}
+use Rattle.survivors.specs.Survivors.{survivors}
 use Rattle.recovery.specs.Rolling.{sharedCK}
 use Rattle.recovery.specs.Partners.{partnerChanges}
 

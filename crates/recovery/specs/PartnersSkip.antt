@@ -17,10 +17,9 @@ use Rattle.table.specs.Stores.{Store, Change, stateTo, valueTo, keptTo, sizeSto
 use Rattle.table.specs.View.{View, view, updates, mark-read, entry-read}
 use Rattle.entries.specs.Tally.{copy}
 use Rattle.homes.specs.HomeCode.{after-below}
-use Rattle.recovery.specs.declared.lost.Lost.{Lost}
-use Rattle.recovery.specs.Survivors.{survivors}
-use Rattle.recovery.specs.SurvivorsCode.{survivor-entry}
-use Rattle.recovery.specs.RollingCode.{survivor-marks}
+use Rattle.survivors.specs.declared.lost.Lost.{Lost}
+use Rattle.survivors.specs.Survivors.{survivors}
+use Rattle.survivors.specs.SurvivorsCode.{survivor-entry, survivor-marks}
 use Rattle.recovery.specs.Partners.{single, holderOf, takesAfter, partnerOf, partnerChanges, partnerFrom, partnerStores, staged}
 use Rattle.recovery.specs.PartnersCode.{Ready, Turned, holder-there, item-other, items-ready}
 use Rattle.recovery.specs.Tallies.{holdersBy, holderBy}

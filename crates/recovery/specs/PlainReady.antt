@@ -2,7 +2,7 @@
 use Prim.Native.Nat.{ℕ}
 use Rattle.table.specs.declared.geometry.Geometry.{Geometry}
 use Rattle.table.specs.View.{View}
-use Rattle.recovery.specs.Sides.{forwardIn}
+use Rattle.survivors.specs.Direction.{forwardIn}
 use Rattle.recovery.specs.Ready.{Ready, Going, Plain}
 use Rattle.recovery.specs.SameMarks.{same-going}
 use Rattle.recovery.specs.PlainSides.{plain-sided}

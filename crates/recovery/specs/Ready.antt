@@ -12,8 +12,9 @@ use Rattle.table.specs.Copies.{copyNumber, copyValue}
 use Rattle.entries.specs.Frames.{setsOf, setFrames, used}
 use Rattle.entries.specs.Tally.{has, copy}
 use Rattle.homes.specs.Kept.{Live}
-use Rattle.recovery.specs.Sides.{forwardIn, copyOn}
-use Rattle.recovery.specs.ClosingMarks.{largestNumber}
+use Rattle.recovery.specs.Sides.{copyOn}
+use Rattle.survivors.specs.Direction.{forwardIn}
+use Rattle.survivors.specs.ClosingMarks.{largestNumber}
 
 -- a survivor has a recovery copy of item b on a side
 pub record Holds (g : Geometry) (forward : Bool) (w : View) (b n : ℕ) : Type 0 where

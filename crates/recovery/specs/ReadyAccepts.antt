@@ -14,7 +14,8 @@ use Rattle.table.specs.Copies.{copyNumber, copyValue}
 use Rattle.entries.specs.Frames.{setsOf, setFrames, used, framesFit}
 use Rattle.entries.specs.Sound.{marksForm, statesForm, nodeSound, nodesSound}
 use Rattle.homes.specs.Kept.{live-test, test-live}
-use Rattle.recovery.specs.Sides.{forwardIn, copyOn, hasCopy, copiesOn, itemFits, itemsFit}
+use Rattle.recovery.specs.Sides.{copyOn, hasCopy, copiesOn, itemFits, itemsFit}
+use Rattle.survivors.specs.Direction.{forwardIn}
 use Rattle.recovery.specs.Recover.{survivorsFormed}
 use Rattle.recovery.specs.Ready.{Sided, Ready}
 use Rattle.recovery.specs.RecoveredSound.{dead-form}

@@ -1,6 +1,6 @@
 -- Recover: its stages one after the other, its refusals, its plan. Each stage is a function of the view that it finds.
-use Prim.Native.Nat.{ℕ, _+_, _-_, _*_}
-use mathlib.Core.Bool.{Bool, not, cond, _&&_, _||_}
+use Prim.Native.Nat.{ℕ, _+_}
+use mathlib.Core.Bool.{Bool, not, cond, _&&_}
 use mathlib.Core.List.{List, _++_}
 use lib.Dec.{ltb}
 use lib.ListN.{replicate, drop}
@@ -16,13 +16,13 @@ use Rattle.entries.specs.Check.{sizesOf}
 use Rattle.homes.specs.declared.admission.Admission.{Admission}
 use Rattle.homes.specs.declared.admission.Admission.the-variants.{Admitted, Turned}
 use Rattle.homes.specs.Plans.{planAdmitted}
-use Rattle.recovery.specs.declared.lost.Lost.{Lost}
-use Rattle.recovery.specs.Survivors.{lostStores, survivors, survivorCount, lostOutside}
+use Rattle.survivors.specs.declared.lost.Lost.{Lost}
+use Rattle.survivors.specs.Survivors.{lostStores, survivors, lostOutside, tooFew}
 use Rattle.recovery.specs.Sides.{itemsFit}
 use Rattle.recovery.specs.Rolling.{rollStores}
 use Rattle.recovery.specs.Numbering.{numberStores}
 use Rattle.recovery.specs.Partners.{partnersStores}
-use Rattle.recovery.specs.ClosingMarks.{closingStores}
+use Rattle.survivors.specs.ClosingMarks.{closingStores}
 
 -- ---- the stores
 
@@ -46,13 +46,6 @@ scratchWords g = g .items + g .nodes
 -- "word forms and frames of survivors only"
 unfoldable pub survivorsFormed : Geometry → View → Bool
 survivorsFormed g w = marksForm w (g .nodes) && nodesSound g w
-
--- 14 with k survivors
-unfoldable pub tooFewWith : Geometry → ℕ → Bool
-tooFewWith g k = ltb k 2 || ltb ((k - 1) * g .frames) (2 * g .items - 1)
-
-unfoldable pub tooFew : Geometry → View → Bool
-tooFew g w = tooFewWith g (survivorCount g w)
 
 -- ---- the plan
 

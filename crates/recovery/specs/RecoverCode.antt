@@ -24,17 +24,18 @@ use Rattle.entries.specs.SurveySound.{Surveyable}
 use Rattle.homes.specs.declared.admission.Admission.{Admission}
 use Rattle.homes.specs.declared.admission.Admission.the-variants.{Admitted, Turned}
 use Rattle.homes.specs.Plans.{planAdmitted}
-use Rattle.recovery.specs.declared.lost.Lost.{Lost}
+use Rattle.survivors.specs.declared.lost.Lost.{Lost}
 use Rattle.recovery.specs.declared.census.Census.{Census}
-use Rattle.recovery.specs.Survivors.{lostStores, survivors, lostOutside}
-use Rattle.recovery.specs.Sides.{forwardIn, itemsFit}
-use Rattle.recovery.specs.ClosingMarks.{closingStores}
+use Rattle.survivors.specs.Survivors.{lostStores, survivors, lostOutside, tooFew}
+use Rattle.recovery.specs.Sides.{itemsFit}
+use Rattle.survivors.specs.Direction.{forwardIn}
+use Rattle.survivors.specs.ClosingMarks.{closingStores}
 use Rattle.recovery.specs.RecoverPlan.{admission-admits}
 use Rattle.recovery.specs.RecoverStages.{survivors-same, lost-stores-within, survivors-stored, recover-stored}
 use Rattle.recovery.specs.RollingCode.{Rolled}
 use Rattle.recovery.specs.Census.{Takable, Taken}
 use Rattle.recovery.specs.PairsCode.{Restorable, Pairable, Pairs, rolled-pairable}
-use Rattle.recovery.specs.Recover.{survivorStores, recoverStores, scratchWords, survivorsFormed, tooFew, recoverAdmission, recoverChecked, recoverOf, scratchAfter}
+use Rattle.recovery.specs.Recover.{survivorStores, recoverStores, scratchWords, survivorsFormed, recoverAdmission, recoverChecked, recoverOf, scratchAfter}
 
 -- ---- definitions
 

@@ -9,14 +9,14 @@ use Rattle.table.specs.Stores.{Store, markStore, All, none, more, all-then}
 use Rattle.table.specs.View.{View, updates}
 use Rattle.homes.specs.SoundKept.{Off, entry-off, pass-off}
 use Rattle.checkpoints.specs.MarksSound.{marks-off, entries-off}
-use Rattle.recovery.specs.declared.lost.Lost.{Lost}
-use Rattle.recovery.specs.declared.lost.Lost.the-variants.{Nobody, Node}
-use Rattle.recovery.specs.Survivors.{lostStores, survivors}
-use Rattle.recovery.specs.Sides.{forwardIn}
+use Rattle.survivors.specs.declared.lost.Lost.{Lost}
+use Rattle.survivors.specs.declared.lost.Lost.the-variants.{Nobody, Node}
+use Rattle.survivors.specs.Survivors.{lostStores, survivors}
+use Rattle.survivors.specs.Direction.{forwardIn}
 use Rattle.recovery.specs.Rolling.{rollChange, rollStores}
 use Rattle.recovery.specs.Numbering.{numberChange, numberStores}
 use Rattle.recovery.specs.Partners.{single, holderOf, partnerOf, partnerChanges, partnerFrom, partnerStores, staged, partnersStores}
-use Rattle.recovery.specs.ClosingMarks.{closingStores}
+use Rattle.survivors.specs.ClosingMarks.{closingStores}
 use Rattle.recovery.specs.Recover.{followed, survivorStores, recoverStores}
 
 module _ (g : Geometry) where

@@ -18,10 +18,10 @@ use Rattle.entries.specs.Check.{sizesOf}
 use Rattle.homes.specs.declared.admission.Admission.{Admission}
 use Rattle.homes.specs.declared.admission.Admission.the-variants.{Admitted, Turned}
 use Rattle.homes.specs.Plans.{planAdmitted}
-use Rattle.recovery.specs.declared.lost.Lost.{Lost}
-use Rattle.recovery.specs.Survivors.{survivors, lostOutside}
+use Rattle.survivors.specs.declared.lost.Lost.{Lost}
+use Rattle.survivors.specs.Survivors.{survivors, lostOutside, tooFew}
 use Rattle.recovery.specs.Sides.{itemsFit}
-use Rattle.recovery.specs.Recover.{recoverStores, scratchWords, survivorsFormed, tooFew, recoverAdmission, recoverChecked, recoverOf}
+use Rattle.recovery.specs.Recover.{recoverStores, scratchWords, survivorsFormed, recoverAdmission, recoverChecked, recoverOf}
 
 -- none of the refusals, and the stores
 pub record Carries (t : List ℕ) (lost : Lost) (scratch : ℕ) (g : Geometry) (ss : List Store) : Type 0 where

@@ -12,25 +12,23 @@ use lib.Seq.{take-all}
 use Rattle.counting.specs.Tests.{by-cases}
 use Rattle.table.specs.declared.geometry.Geometry.{Geometry}
 use Rattle.table.specs.Geometry.{wordsOf}
-use Rattle.table.specs.Words.{markWord}
 use Rattle.table.specs.Stores.{Store, Stored, markStore, All, none, more, after-zero, stored-then, stored-as}
 use Rattle.table.specs.View.{View, view, put₁, updates}
 use Rattle.table.specs.ViewAfter.{Within, view-after}
 use Rattle.table.specs.Pass.{grid-within}
-use Rattle.table.specs.MarksPass.{marksTo}
 use Rattle.checkpoints.specs.Checkpoint.{liveChanges, entriesBefore, entriesTo}
-use Rattle.recovery.specs.declared.lost.Lost.{Lost}
-use Rattle.recovery.specs.declared.lost.Lost.the-variants.{Nobody, Node}
-use Rattle.recovery.specs.Survivors.{lostStores, survivors, lostOutside}
-use Rattle.recovery.specs.Sides.{forwardIn}
+use Rattle.survivors.specs.declared.lost.Lost.{Lost}
+use Rattle.survivors.specs.declared.lost.Lost.the-variants.{Nobody, Node}
+use Rattle.survivors.specs.Survivors.{lostStores, survivors, lostOutside}
+use Rattle.survivors.specs.Direction.{forwardIn}
 use Rattle.recovery.specs.Rolling.{rollChange, rollStores}
 use Rattle.recovery.specs.Numbering.{numberChange, numberStores}
 use Rattle.recovery.specs.Partners.{partnersStores}
-use Rattle.recovery.specs.ClosingMarks.{largestNumber, closingStores}
+use Rattle.survivors.specs.ClosingMarks.{closingStores}
 use Rattle.recovery.specs.Recover.{followed, survivorStores, recoverStores}
 use Rattle.recovery.specs.Followed.{Entered, entered-pass, stage-follows}
 use Rattle.recovery.specs.PartnersCode.{entered-partners}
-use Rattle.recovery.specs.ClosingMarksCode.{lost-within}
+use Rattle.survivors.specs.ClosingMarksCode.{lost-within}
 
 -- ---- the stages store in entries that are there
 
@@ -68,13 +66,6 @@ roll-stored :
     → Stored g l (entriesTo g w (rollChange forward)) t t₁ l₁ → Stored g l (rollStores g w) t t₁ l₁
 unfolding rollStores
 roll-stored g w e s = rw (← e) s
-
--- the marks get the largest number
-pub closing-stored :
-    (g : Geometry) (w : View) {number word l l₁ : ℕ} {t t₁ : List ℕ} → number ≡ largestNumber g w → word ≡ markWord 0 number
-    → Stored g l (marksTo g w (λ x. word)) t t₁ l₁ → Stored g l (closingStores g w) t t₁ l₁
-unfolding closingStores
-closing-stored g w e q s = rw (← e, ← q) s
 
 pub survivors-stored :
     (g : Geometry) (lost : Lost) {forward : Bool} {l l₁ l₂ l₃ l₄ : ℕ} {t t₁ t₂ t₃ t₄ : List ℕ} → wordsOf g ≤ length t

@@ -18,9 +18,9 @@ use Rattle.entries.specs.CheckFacts.{Shape, sizes-facts}
 use Rattle.homes.specs.SoundKept.{shape-after}
 use Rattle.homes.specs.Serves.{Serves, serves-by}
 use Rattle.homes.specs.Plans.{planAdmitted}
-use Rattle.recovery.specs.declared.lost.Lost.{Lost}
-use Rattle.recovery.specs.Survivors.{survivors, survivorCount, lostOutside}
-use Rattle.recovery.specs.Recover.{scratchWords, recoverStores, tooFewWith, tooFew, recoverAdmission, recoverChecked, recoverOf}
+use Rattle.survivors.specs.declared.lost.Lost.{Lost}
+use Rattle.survivors.specs.Survivors.{survivors, survivorCount, lostOutside, tooFewWith, tooFew}
+use Rattle.recovery.specs.Recover.{scratchWords, recoverStores, recoverAdmission, recoverChecked, recoverOf}
 use Rattle.recovery.specs.Ready.{Ready, Going}
 use Rattle.recovery.specs.Recovered.{Recovered}
 use Rattle.recovery.specs.ReadyAccepts.{ready-formed, ready-fit}

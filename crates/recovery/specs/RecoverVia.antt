@@ -10,14 +10,14 @@ use Rattle.table.specs.Stores.{Store, markStore}
 use Rattle.table.specs.View.{View, put₁, update}
 use Rattle.table.specs.Puts.{put₁-case}
 use Rattle.table.specs.Via.{Via, step, via-weaken, via-loosen}
-use Rattle.recovery.specs.declared.lost.Lost.{Lost}
-use Rattle.recovery.specs.declared.lost.Lost.the-variants.{Nobody, Node}
-use Rattle.recovery.specs.Survivors.{survivors, lostOutside}
+use Rattle.survivors.specs.declared.lost.Lost.{Lost}
+use Rattle.survivors.specs.declared.lost.Lost.the-variants.{Nobody, Node}
+use Rattle.survivors.specs.Survivors.{survivors, lostOutside, tooFew}
 use Rattle.recovery.specs.Rolling.{rollStores}
 use Rattle.recovery.specs.Numbering.{numberStores}
 use Rattle.recovery.specs.Partners.{partnersStores}
-use Rattle.recovery.specs.ClosingMarks.{closingStores}
-use Rattle.recovery.specs.Recover.{followed, survivorStores, recoverStores, tooFew}
+use Rattle.survivors.specs.ClosingMarks.{closingStores}
+use Rattle.recovery.specs.Recover.{followed, survivorStores, recoverStores}
 use Rattle.recovery.specs.Ready.{Ready, Going, Plain}
 use Rattle.recovery.specs.Recovered.{Recovered}
 use Rattle.recovery.specs.PlainReady.{plain-ready}

@@ -11,7 +11,7 @@ use Rattle.entries.specs.Frames.{setsOf, setFrames, used}
 use Rattle.homes.specs.Kept.{Live}
 use Rattle.homes.specs.FramesKept.{used-no-more}
 use Rattle.checkpoints.specs.LivePass.{liveEach, entries-via}
-use Rattle.recovery.specs.Sides.{forwardIn}
+use Rattle.survivors.specs.Direction.{forwardIn}
 use Rattle.recovery.specs.Rolling.{rollChange, rollStores}
 use Rattle.recovery.specs.Ready.{Sided, Ready, Going, Plain}
 use Rattle.recovery.specs.SameMarks.{same-live, live-same, same-going}

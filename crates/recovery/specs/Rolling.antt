@@ -10,7 +10,8 @@ use Rattle.table.specs.Changes.{changeOf}
 use Rattle.table.specs.Stores.{Store, Change, stateTo, valueTo}
 use Rattle.table.specs.View.{Entry, View, current, kept}
 use Rattle.checkpoints.specs.Checkpoint.{entriesTo}
-use Rattle.recovery.specs.Sides.{forwardIn, sideEvent}
+use Rattle.recovery.specs.Sides.{sideEvent}
+use Rattle.survivors.specs.Direction.{forwardIn}
 
 -- the Shared-CK of a number
 abbrev pub sharedCK : ℕ → ℕ

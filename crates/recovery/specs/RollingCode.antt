@@ -18,12 +18,11 @@ use Rattle.table.specs.Pass.{pass}
 use Rattle.table.specs.PassTurns.{Local, items-turn, nodes-turn}
 use Rattle.entries.specs.Row.{row-read, row-state}
 use Rattle.checkpoints.specs.Checkpoint.{liveChanges, entriesBefore, entriesTo, changes-local, changes-live, changes-dead}
-use Rattle.recovery.specs.declared.lost.Lost.{Lost}
-use Rattle.recovery.specs.declared.lost.Lost.the-variants.{Nobody, Node}
-use Rattle.recovery.specs.Survivors.{survivors}
+use Rattle.survivors.specs.declared.lost.Lost.{Lost}
+use Rattle.survivors.specs.Survivors.{survivors}
 use Rattle.recovery.specs.Sides.{sideEvent}
 use Rattle.recovery.specs.Rolling.{bringBack, settled, rollChange}
-use Rattle.recovery.specs.SurvivorsCode.{survivor-entry}
+use Rattle.survivors.specs.SurvivorsCode.{survivor-entry, survivor-marks}
 use Rattle.recovery.specs.Rows.{stateIn, Listed, reached, reached-start, reached-next, listed-turn, listed-end, row-room}
 
 -- ---- one entry
@@ -87,10 +86,6 @@ back-all n b e {w} {c} {k} {x} z p q h first second third =
     (stored-three n b (cleared c k) (valueTo x ∷ []) (stateTo (3 + k) invalid ∷ []) first second third)
 
 -- ---- the survivors' entries
-
-pub survivor-marks : (lost : Lost) (v w : View) (n : ℕ) → w .mark n ≡ v .mark n → survivors lost w .mark n ≡ survivors lost v .mark n
-survivor-marks Nobody v w n h = h
-survivor-marks (Node m) v w n h = ap (cond (eqb n m) 0) h
 
 -- changes of a survivor's entry look at its mark and at the entry alone
 survivor-local : (change : Entry → List Change) (lost : Lost) → Local (λ v. liveChanges change (survivors lost v))

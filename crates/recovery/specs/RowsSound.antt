@@ -13,9 +13,9 @@ use Rattle.table.specs.Words.{stateForm}
 use Rattle.table.specs.View.{View}
 use Rattle.entries.specs.Frames.{setFrames, framesIn, used, framesFit, frames-here}
 use Rattle.entries.specs.Sound.{statesForm, nodeSound}
-use Rattle.recovery.specs.declared.lost.Lost.{Lost}
-use Rattle.recovery.specs.Survivors.{survivors}
-use Rattle.recovery.specs.SurvivorsCode.{survivor-live}
+use Rattle.survivors.specs.declared.lost.Lost.{Lost}
+use Rattle.survivors.specs.Survivors.{survivors}
+use Rattle.survivors.specs.SurvivorsCode.{survivor-live}
 use Rattle.recovery.specs.Rows.{stateIn, Listed, reached, reached-start, reached-next, listed-turn, listed-end}
 
 -- ---- the pass

@@ -7,8 +7,8 @@ use Rattle.table.specs.Words.{stateForm}
 use Rattle.table.specs.View.{View}
 use Rattle.entries.specs.Frames.{setsOf, setFrames, used}
 use Rattle.homes.specs.Kept.{Live}
-use Rattle.recovery.specs.Sides.{forwardIn}
-use Rattle.recovery.specs.ClosingMarks.{largestNumber}
+use Rattle.survivors.specs.Direction.{forwardIn}
+use Rattle.survivors.specs.ClosingMarks.{largestNumber}
 use Rattle.recovery.specs.Ready.{Sided, Ready, Going}
 
 module _ (g : Geometry) (w u : View) (same : u .mark ≡ w .mark) where

@@ -8,19 +8,10 @@ use Rattle.counting.specs.Values.{valuesOf}
 use Rattle.table.specs.declared.geometry.Geometry.{Geometry}
 use Rattle.table.specs.declared.changes.Event.{Event}
 use Rattle.table.specs.declared.changes.Event.the-variants.{RollBack, RollForward}
-use Rattle.table.specs.Words.{phaseOf}
 use Rattle.table.specs.View.{Entry, View, live}
 use Rattle.table.specs.Copies.{Copy, backCopy, copyNumber, copyValue}
 use Rattle.checkpoints.specs.Forward.{forwardCopy}
-use Rattle.counting.specs.Exists.{exists}
-
--- node n has phase 2
-abbrev pub commits : View → ℕ → Bool
-commits w n = live w n && eqb (phaseOf (w .mark n)) 2
-
--- w is the view of the survivors
-unfoldable pub forwardIn : Geometry → View → Bool
-forwardIn g w = exists (commits w) (g .nodes)
+use Rattle.survivors.specs.Direction.{forwardIn}
 
 -- the column of the state table
 abbrev pub sideEvent : Bool → Event

@@ -1,21 +1,15 @@
 -- The ways of the code that looks at a side: a law for each, over what the code has read.
 use Prim.Native.Nat.{ℕ, _+_}
-use mathlib.Core.Path.{_≡_, refl}
-use mathlib.Core.Bool.{Bool, not, cond, _&&_}
-use lib.Dec.{eqb}
+use mathlib.Core.Path.{_≡_}
+use mathlib.Core.Bool.{Bool, cond}
 use Rattle.counting.specs.declared.values.Values.{Values}
 use Rattle.counting.specs.Counting.{every}
 use Rattle.counting.specs.Values.{metOf, noValues, valuesOf, values-none, values-next}
 use Rattle.table.specs.declared.geometry.Geometry.{Geometry}
-use Rattle.table.specs.Words.{phaseOf}
 use Rattle.table.specs.View.{View}
 use Rattle.table.specs.Copies.{copyValue}
-use Rattle.recovery.specs.Sides.{commits, forwardIn, copyOn, hasCopy, itemFits, itemsFit}
-
--- ---- the side
-
-pub commits-here : (w : View) (n : ℕ) {mark phase : ℕ} → mark ≡ w .mark n → phase ≡ phaseOf mark → (not (eqb mark 0) && eqb phase 2) ≡ commits w n
-commits-here w n h e = rw (e, h) refl
+use Rattle.recovery.specs.Sides.{copyOn, hasCopy, itemFits, itemsFit}
+use Rattle.survivors.specs.Direction.{forwardIn}
 
 -- ---- the recovery copies of an item
 

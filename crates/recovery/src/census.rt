@@ -1,16 +1,17 @@
 // The census of the survivors: one pass over their occupied entries for all that a recovery has to know of them before its first store.
 ghost use mathlib.Core.Path.{_≡_};
-ghost use mathlib.Core.Bool.{true, false, cond};
+ghost use mathlib.Core.Bool.{true, false};
 ghost use Prim.Native.Nat.{_+_, _^_, _<_, _≤_};
 ghost use lib.ListN.{length, getD};
 ghost use Rattle.table.specs.View.{view};
 ghost use Rattle.entries.specs.Row.{topOf};
-ghost use Rattle.recovery.specs.Survivors.{survivors};
+ghost use Rattle.survivors.specs.Survivors.{survivors};
 ghost use Rattle.recovery.specs.Census.{sideBits, entryFrom, EntryNoted, RowReady, RowNoted, NodeReady, NodeNoted, NodesNoted, KindsTold, Takable, TakenIn};
-use crate::lost::Lost;
 use crate::rows;
-use crate::survivors;
+use counting::choice;
 use entries::frames;
+use survivors::lost::Lost;
+use survivors::nodes;
 use table::geometry::Geometry;
 use table::words;
 
@@ -198,16 +199,6 @@ fn weight(state: u64, forward: bool) -> u64
     back_weight(top)
 }
 
-// One of two words.
-fn either(test: bool, yes: u64, no: u64) -> u64
-    ensures { λ r. ⌜ r ≡ cond test yes no ⌝ }
-{
-    if test {
-        return yes;
-    }
-    no
-}
-
 // Notes the entry of an item at a place; a recovery copy adds to the tally by the node's step.
 fn note_entry(
     table: &[u64],
@@ -228,9 +219,9 @@ fn note_entry(
     let kept = (weight / 0x100_0000_0000 % 2) as usize;
     let value = table[at + 1 + kept];
     let adds = weight / 1024 % 2048;
-    let known = either(tally == 0, value, first);
+    let known = choice::either(tally == 0, value, first);
     tallies[item] = tally + adds * step;
-    firsts[item] = either(adds == 0, first, known);
+    firsts[item] = choice::either(adds == 0, first, known);
     Note {
         weight,
         low: state % 0x400_0000_0000_0000 == 0,
@@ -303,7 +294,7 @@ fn note_node(
     requires { ⌜ NodeReady g forward (survivors lost (view g (now table))) node (now table) (now list) (now tallies) (now firsts) (now used) ⌝ }
     ensures { λ r. ⌜ NodeNoted g forward (survivors lost (view g (now (table .entry)))) node (now (list .entry)) (now (list .exit)) (now (tallies .exit)) (now (firsts .exit)) (now (used .exit)) r ⌝ }
 {
-    let mark = survivors::survivor_mark(table, g, lost, node);
+    let mark = nodes::survivor_mark(table, g, lost, node);
     let form = words::mark_form(mark);
     if mark == 0 {
         return Found {

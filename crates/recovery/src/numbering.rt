@@ -8,12 +8,12 @@ ghost use Rattle.table.specs.Geometry.{wordsOf};
 ghost use Rattle.table.specs.Stores.{Stored, StoredIn};
 ghost use Rattle.table.specs.View.{view};
 ghost use Rattle.table.specs.Pass.{pass};
-ghost use Rattle.recovery.specs.Survivors.{survivors};
+ghost use Rattle.survivors.specs.Survivors.{survivors};
 ghost use Rattle.recovery.specs.Numbering.{numberAfter, numberChange, numberStores};
 ghost use Rattle.recovery.specs.NumberingCode.{noHolders, ofNumber, Met, HoldersTo, survivorCode, numberBy, Numberable, Numbering};
-use crate::lost::Lost;
 use crate::rolling;
-use crate::survivors;
+use survivors::lost::Lost;
+use survivors::nodes;
 use table::changes;
 use table::geometry::Geometry;
 use table::stores;
@@ -70,7 +70,7 @@ impl Holders {
 fn survivor_code(table: &[u64], g: Geometry, lost: Lost, node: u8, item: u16) -> u8
     ensures { λ r. ⌜ r ≡ survivorCode (survivors lost (view g (now (table .entry)))) item node ⌝ }
 {
-    let mark = survivors::survivor_mark(table, g, lost, node);
+    let mark = nodes::survivor_mark(table, g, lost, node);
     if mark == 0 {
         return words::INVALID;
     }

@@ -3,23 +3,22 @@
 ghost use mathlib.Core.Path.{_≡_};
 ghost use Prim.Native.Nat.{_≤_, _<_, _-_};
 ghost use lib.ListN.{length};
-ghost use Rattle.table.specs.Geometry.{wordsOf};
 ghost use Rattle.table.specs.Stores.{StoredIn};
 ghost use Rattle.table.specs.View.{view};
 ghost use Rattle.table.specs.Words.{currentOf};
 ghost use Rattle.table.specs.Changes.{checkpointOf};
 ghost use Rattle.homes.specs.Home.{nodeAfter};
-ghost use Rattle.recovery.specs.Survivors.{survivors};
+ghost use Rattle.survivors.specs.Survivors.{survivors};
 ghost use Rattle.recovery.specs.Rolling.{sharedCK};
-ghost use Rattle.recovery.specs.Partners.{holderOf, partnerChanges, partnerFrom, partnerStores, partnersStores};
+ghost use Rattle.recovery.specs.Partners.{partnerChanges, partnerFrom, partnerStores, partnersStores};
 ghost use Rattle.recovery.specs.Rows.{HasEntry};
 ghost use Rattle.recovery.specs.PartnersCounts.{usedWith};
 ghost use Rattle.recovery.specs.PartnersCode.{takesBy, Found, UsedBy, Filled, FilledFrom, Ready, Turned};
 ghost use Rattle.recovery.specs.PartnersSkip.{Single, Passable, Settles};
-use crate::lost::Lost;
 use crate::rows;
-use crate::survivors;
 use entries::frames;
+use survivors::lost::Lost;
+use survivors::nodes;
 use table::changes;
 use table::geometry::Geometry;
 use table::stores;
@@ -29,7 +28,7 @@ use table::words;
 fn used_by(table: &[u64], g: Geometry, lost: Lost, node: u8) -> u64
     ensures { λ r. ⌜ UsedBy g (survivors lost (view g (now (table .entry)))) node r ⌝ }
 {
-    let mark = survivors::survivor_mark(table, g, lost, node);
+    let mark = nodes::survivor_mark(table, g, lost, node);
     if mark == 0 {
         return 0;
     }
@@ -67,7 +66,7 @@ fn can_take(table: &[u64], g: Geometry, lost: Lost, scratch: &[u64], item: u16, 
     requires { ⌜ HasEntry g (now table) node item ⌝ }
     ensures { λ r. ⌜ r ≡ takesBy g (survivors lost (view g (now (table .entry)))) (now (scratch .entry)) item node ⌝ }
 {
-    let mark = survivors::survivor_mark(table, g, lost, node);
+    let mark = nodes::survivor_mark(table, g, lost, node);
     if mark == 0 {
         return false;
     }

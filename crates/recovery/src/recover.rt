@@ -2,31 +2,29 @@
 ghost use mathlib.Core.Path.{_≡_};
 ghost use Prim.Native.Nat.{_≤_};
 ghost use lib.ListN.{length};
-ghost use Rattle.table.specs.Stores.{Stored};
 ghost use Rattle.table.specs.View.{view};
 ghost use Rattle.entries.specs.declared.check.Checked.the-variants.{Passed};
 ghost use Rattle.entries.specs.SurveySound.{Surveyable};
-ghost use Rattle.recovery.specs.Survivors.{survivors};
+ghost use Rattle.survivors.specs.Survivors.{survivors};
 ghost use Rattle.recovery.specs.Sides.{itemsFit};
-ghost use Rattle.recovery.specs.ClosingMarks.{closingStores};
 ghost use Rattle.recovery.specs.Recover.{scratchWords, survivorsFormed, recoverAdmission, recoverChecked, recoverOf};
 ghost use Rattle.recovery.specs.PairsCode.{Pairable, Pairs};
 ghost use Rattle.recovery.specs.RecoverCode.{Roomy, StoresReady, RestoreReady, StagesStored, Recovers, RecoverMeets};
 use crate::census;
-use crate::closing;
-use crate::lost::Lost;
+use crate::marks;
 use crate::numbering;
 use crate::partners;
 use crate::rolling;
 use crate::scratch;
-use crate::sides;
-use crate::survivors;
 use entries::check::Checked;
 use homes::admission::Admission;
+use survivors::closing;
+use survivors::direction;
+use survivors::lost::Lost;
+use survivors::nodes;
 use table::answers::Answer;
 use table::answers::Refusal;
 use table::geometry::Geometry;
-use table::words;
 
 // The words of the scratch that a recovery uses.
 fn scratch_words(g: Geometry) -> usize
@@ -47,7 +45,7 @@ fn admit_recover(
     requires { ⌜ (formed ≡ survivorsFormed g (survivors lost (view g (now table)))) × (fit ≡ itemsFit g (survivors lost (view g (now table)))) ⌝ }
     ensures { λ r. ⌜ r ≡ recoverAdmission g (survivors lost (view g (now (table .entry)))) lost room ⌝ }
 {
-    let outside = survivors::lost_outside(g, lost);
+    let outside = nodes::lost_outside(g, lost);
     if outside {
         return Admission::Turned(Refusal::NoNode);
     }
@@ -58,7 +56,7 @@ fn admit_recover(
     if !formed {
         return Admission::Turned(Refusal::NotSound);
     }
-    let few = survivors::too_few(table, g, lost);
+    let few = nodes::too_few(table, g, lost);
     if few {
         return Admission::Turned(Refusal::TooFewNodes);
     }
@@ -92,15 +90,6 @@ fn pair(
     partners::partner_items(table, left, g, lost, scratch, tallies)
 }
 
-// The survivors' marks, ascending: phase 0 and their largest number.
-fn close(table: &mut [u64], left: u64, g: Geometry, lost: Lost) -> u64
-    ensures { λ r. ⌜ Stored g left (closingStores g (survivors lost (view g (now (table .entry))))) (now (table .entry)) (now (table .exit)) r ⌝ }
-{
-    let number = closing::largest_number(table, g, lost);
-    let word = words::mark_word(0, number);
-    closing::close_marks(table, left, g, lost, word)
-}
-
 // What is stored on the survivors, stage by stage.
 fn restore(
     table: &mut [u64],
@@ -119,7 +108,7 @@ fn restore(
 {
     let left = rolling::roll(table, left, g, lost, forward, list);
     let left = pair(table, left, g, lost, scratch, tallies, used, plain);
-    close(table, left, g, lost)
+    closing::close(table, left, g, lost)
 }
 
 // All stores of a recovery; the scratch is zero where it was used.
@@ -139,7 +128,7 @@ fn recover_stores(
     ensures { λ r. ⌜ Recovers g lost left (now (table .entry)) (now (table .exit)) (now (scratch .entry)) (now (scratch .exit)) r ⌝ }
 {
     let words = scratch_words(g);
-    let left = closing::store_lost(table, left, g, lost);
+    let left = marks::store_lost(table, left, g, lost);
     let left = restore(
         table,
         left,
@@ -171,7 +160,7 @@ fn recover_in(
     ensures { λ r. ⌜ RecoverMeets (recoverChecked (now (table .entry)) lost (length (now (scratch .entry))) (Passed g)) limit (now (table .entry)) (now (table .exit)) (now (scratch .entry)) (now (scratch .exit)) r ⌝ }
 {
     let mut used: [u64; 16] = [0; 16];
-    let forward = sides::forward_in(table, g, lost);
+    let forward = direction::forward_in(table, g, lost);
     let census = census::take(table, g, lost, forward, list, tallies, firsts, &mut used);
     let plain = census.plain;
     let room = scratch.len();

@@ -10,9 +10,9 @@ ghost use Rattle.table.specs.Changes.{changeOf};
 ghost use Rattle.recovery.specs.Rolling.{bringBack, settled, rollChange};
 ghost use Rattle.recovery.specs.Sides.{sideEvent};
 ghost use Rattle.recovery.specs.RollingCode.{cleared, RollListed, RolledNode, Rolled};
-use crate::lost::Lost;
 use crate::rows;
-use crate::survivors;
+use survivors::lost::Lost;
+use survivors::nodes;
 use table::geometry::Geometry;
 use table::stores;
 use table::words;
@@ -143,7 +143,7 @@ fn roll_node(
     requires { ⌜ (node < g .nodes) × ((wordsOf g ≤ length (now table)) × (g .items ≤ length (now list))) ⌝ }
     ensures { λ r. ⌜ RolledNode g lost node forward left (now (table .entry)) (now (table .exit)) (now (list .entry)) (now (list .exit)) r ⌝ }
 {
-    let mark = survivors::survivor_mark(table, g, lost, node);
+    let mark = nodes::survivor_mark(table, g, lost, node);
     if mark == 0 {
         return left;
     }

@@ -11,9 +11,9 @@ use Rattle.entries.specs.declared.check.Checked.the-variants.{Passed}
 use Rattle.entries.specs.Check.{sizesOf}
 use Rattle.entries.specs.CheckFacts.{Shape, facts-sizes}
 use Rattle.homes.specs.SoundKept.{shape-after}
-use Rattle.recovery.specs.declared.lost.Lost.{Lost}
-use Rattle.recovery.specs.Survivors.{survivors, lostOutside}
-use Rattle.recovery.specs.Recover.{scratchWords, tooFew, recoverOf}
+use Rattle.survivors.specs.declared.lost.Lost.{Lost}
+use Rattle.survivors.specs.Survivors.{survivors, lostOutside, tooFew}
+use Rattle.recovery.specs.Recover.{scratchWords, recoverOf}
 use Rattle.recovery.specs.RecoverPlan.{few-refused}
 use Rattle.recovery.specs.RecoverOff.{recover-off}
 use Rattle.recovery.specs.Ready.{Ready, Going}

@@ -27,8 +27,8 @@ use Rattle.homes.specs.EvictTheorem.{carried as evict-carried, admits, from, ev
 use Rattle.checkpoints.specs.OpenTheorem.{carried as open-carried, open-keeps}
 use Rattle.checkpoints.specs.CreateTheorem.{passed as create-passed, create-keeps}
 use Rattle.checkpoints.specs.AbandonTheorem.{carried as abandon-carried, abandon-keeps}
-use Rattle.recovery.specs.declared.lost.Lost.{Lost}
-use Rattle.recovery.specs.Survivors.{survivors}
+use Rattle.survivors.specs.declared.lost.Lost.{Lost}
+use Rattle.survivors.specs.Survivors.{survivors}
 use Rattle.recovery.specs.Ready.{Ready}
 use Rattle.restore.specs.KeptReady.{kept-ready, marks-ready}
 use Rattle.restore.specs.MovingReady.{moving-ready}

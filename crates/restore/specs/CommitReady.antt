@@ -30,10 +30,10 @@ use Rattle.checkpoints.specs.CommitTheorem.{carried, commit-keeps}
 use Rattle.checkpoints.specs.CommitSound.{not-owned}
 use Rattle.checkpoints.specs.CommitServes.{no-forward}
 use Rattle.homes.specs.Serves.{CurrentHave, BackHave, Serves, same-geometry, serves-number}
-use Rattle.recovery.specs.declared.lost.Lost.{Lost}
+use Rattle.survivors.specs.declared.lost.Lost.{Lost}
 use Rattle.counting.specs.Exists.{exists-here, exists-at}
-use Rattle.recovery.specs.Survivors.{survivors, carries}
-use Rattle.recovery.specs.Sides.{commits, forwardIn}
+use Rattle.survivors.specs.Survivors.{survivors, carries}
+use Rattle.survivors.specs.Direction.{commits, forwardIn}
 use Rattle.recovery.specs.Ready.{Holds, Ready}
 use Rattle.restore.specs.Surviving.{survivor-mark, survivor-live}
 use Rattle.recovery.specs.Largest.{largest-is}

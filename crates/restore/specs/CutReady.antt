@@ -21,11 +21,11 @@ use Rattle.checkpoints.specs.Open.{openOf}
 use Rattle.checkpoints.specs.Create.{createOf}
 use Rattle.checkpoints.specs.Commit.{commitOf}
 use Rattle.checkpoints.specs.Abandon.{abandonOf}
-use Rattle.recovery.specs.declared.lost.Lost.{Lost}
+use Rattle.survivors.specs.declared.lost.Lost.{Lost}
 use Rattle.restore.specs.declared.call.Call.{Call}
 use Rattle.restore.specs.declared.call.Call.the-variants.{Format, Check, Stretch, Read, Write, Evict, Open, Create, Commit, Abandon, Recover}
 use Rattle.counting.specs.Exists.{exists-not}
-use Rattle.recovery.specs.Survivors.{survivors, carries}
+use Rattle.survivors.specs.Survivors.{survivors, carries}
 use Rattle.restore.specs.Surviving.{survivor-mark, survivor-live}
 use Rattle.recovery.specs.Ready.{Ready}
 use Rattle.restore.specs.CallsReady.{read-ready, write-ready, evict-ready, open-ready, create-ready, abandon-ready}

@@ -14,11 +14,11 @@ use Rattle.table.specs.View.{View, view, live}
 use Rattle.table.specs.Puts.{put₁-case}
 use Rattle.table.specs.Answers.{Plan, refuse, nothingLeft, carry, tableOf}
 use Rattle.homes.specs.Kept.{test-live}
-use Rattle.recovery.specs.declared.lost.Lost.{Lost}
-use Rattle.recovery.specs.declared.lost.Lost.the-variants.{Nobody, Node}
+use Rattle.survivors.specs.declared.lost.Lost.{Lost}
+use Rattle.survivors.specs.declared.lost.Lost.the-variants.{Nobody, Node}
 use Rattle.restore.specs.declared.call.Call.{Call}
 use Rattle.restore.specs.declared.call.Call.the-variants.{Format, Check, Stretch, Read, Write, Evict, Open, Create, Commit, Abandon, Recover}
-use Rattle.recovery.specs.Survivors.{survivors, carries}
+use Rattle.survivors.specs.Survivors.{survivors, carries}
 use Rattle.recovery.specs.Recovered.{Recovered}
 use Rattle.restore.specs.Call.{refused, accepted}
 use Rattle.restore.specs.Memory.{Memory, zeros, carried, fed, valueIn, savedIn}

@@ -35,18 +35,19 @@ use Rattle.homes.specs.Evict.{sourceStores, movedTo, evictStores, placeAdmissio
 use Rattle.checkpoints.specs.Open.{startAdmission}
 use Rattle.checkpoints.specs.Create.{sharesAt, sharerOf, partnerStores as createdPartner, createItem, noPartner, createPlan}
 use Rattle.checkpoints.specs.Commit.{commitStores, createdAdmission}
-use Rattle.recovery.specs.declared.lost.Lost.{Lost}
-use Rattle.recovery.specs.declared.lost.Lost.the-variants.{Nobody, Node}
+use Rattle.survivors.specs.declared.lost.Lost.{Lost}
+use Rattle.survivors.specs.declared.lost.Lost.the-variants.{Nobody, Node}
 use Rattle.restore.specs.declared.call.Call.{Call}
 use Rattle.restore.specs.declared.call.Call.the-variants.{Format, Read, Write, Evict, Open, Create, Commit, Recover}
 use Rattle.counting.specs.Exists.{exists}
-use Rattle.recovery.specs.Survivors.{survivorCount}
-use Rattle.recovery.specs.Sides.{forwardIn, copiesOn, itemFits, itemsFit}
+use Rattle.survivors.specs.Survivors.{survivorCount, tooFewWith, tooFew}
+use Rattle.recovery.specs.Sides.{copiesOn, itemFits, itemsFit}
+use Rattle.survivors.specs.Direction.{forwardIn}
 use Rattle.recovery.specs.Rolling.{bringBack, settled, rollChange, rollStores}
 use Rattle.recovery.specs.Numbering.{holders, numberAfter, numberChange, numberStores}
 use Rattle.recovery.specs.Partners.{single, holderOf, takes, takesAfter, partnerOf, partnerChanges, partnerFrom, partnerStores, staged, partnersStores}
-use Rattle.recovery.specs.ClosingMarks.{largest, largestNumber, closingStores}
-use Rattle.recovery.specs.Recover.{followed, survivorStores, recoverStores, survivorsFormed, tooFewWith, tooFew, recoverAdmission, recoverChecked, recoverOf}
+use Rattle.survivors.specs.ClosingMarks.{largest, largestNumber, closingStores}
+use Rattle.recovery.specs.Recover.{followed, survivorStores, recoverStores, survivorsFormed, recoverAdmission, recoverChecked, recoverOf}
 use Rattle.restore.specs.Call.{planOf}
 use Rattle.restore.specs.Run.{Step, geometryIn, storeCount, planAt, tableBy, run}
 

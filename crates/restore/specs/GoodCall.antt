@@ -39,7 +39,7 @@ use Rattle.checkpoints.specs.OpenServes.{open-serves}
 use Rattle.checkpoints.specs.CreateServes.{create-serves}
 use Rattle.checkpoints.specs.CommitServes.{commit-serves}
 use Rattle.checkpoints.specs.AbandonServes.{abandon-serves}
-use Rattle.recovery.specs.declared.lost.Lost.{Lost}
+use Rattle.survivors.specs.declared.lost.Lost.{Lost}
 use Rattle.restore.specs.declared.call.Call.{Call}
 use Rattle.restore.specs.declared.call.Call.the-variants.{Format, Check, Stretch, Read, Write, Evict, Open, Create, Commit, Abandon, Recover}
 use Rattle.recovery.specs.Recover.{recoverOf}

@@ -18,9 +18,9 @@ use Rattle.table.specs.View.{View, view, live, there, entryIn, blank}
 use Rattle.entries.specs.CheckFacts.{Shape}
 use Rattle.homes.specs.Kept.{Live}
 use Rattle.homes.specs.FramesKept.{used-no-more}
-use Rattle.recovery.specs.declared.lost.Lost.{Lost}
-use Rattle.recovery.specs.declared.lost.Lost.the-variants.{Nobody, Node}
-use Rattle.recovery.specs.Survivors.{survivors}
+use Rattle.survivors.specs.declared.lost.Lost.{Lost}
+use Rattle.survivors.specs.declared.lost.Lost.the-variants.{Nobody, Node}
+use Rattle.survivors.specs.Survivors.{survivors}
 use Rattle.recovery.specs.Ready.{Ready}
 use Rattle.recovery.specs.SameMarks.{same-live, live-same, same-going}
 use Rattle.restore.specs.Strike.{liveOrNone, ofNode, ofLost, Hit}

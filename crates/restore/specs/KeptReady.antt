@@ -20,10 +20,10 @@ use Rattle.entries.specs.CheckFacts.{Accepted, accepted-facts, sound-pair}
 use Rattle.homes.specs.Kept.{Live, Kept, live-test, test-live}
 use Rattle.checkpoints.specs.KeptMarks.{KeptEntries, KeptMarks}
 use Rattle.homes.specs.Serves.{BackHave, Serves}
-use Rattle.recovery.specs.declared.lost.Lost.{Lost}
+use Rattle.survivors.specs.declared.lost.Lost.{Lost}
 use Rattle.counting.specs.Exists.{exists-not}
-use Rattle.recovery.specs.Survivors.{survivors}
-use Rattle.recovery.specs.Sides.{commits, forwardIn}
+use Rattle.survivors.specs.Survivors.{survivors}
+use Rattle.survivors.specs.Direction.{commits, forwardIn}
 use Rattle.recovery.specs.Ready.{Holds, Ready}
 use Rattle.restore.specs.Surviving.{survivor-mark, survivor-live}
 use Rattle.recovery.specs.Largest.{largest-is}

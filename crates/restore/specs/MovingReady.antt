@@ -12,8 +12,8 @@ use Rattle.homes.specs.Kept.{Live}
 use Rattle.homes.specs.Moving.{Moves, still, twice, moved, Moving}
 use Rattle.homes.specs.EvictServes.{moving-back}
 use Rattle.homes.specs.Serves.{BackHave, Serves}
-use Rattle.recovery.specs.declared.lost.Lost.{Lost}
-use Rattle.recovery.specs.Survivors.{survivors}
+use Rattle.survivors.specs.declared.lost.Lost.{Lost}
+use Rattle.survivors.specs.Survivors.{survivors}
 use Rattle.recovery.specs.Ready.{Holds, Ready}
 use Rattle.restore.specs.Standing.{Two, Standing, live-before, live-still}
 use Rattle.restore.specs.KeptReady.{running-ready, some-item, serves-standing, same-running}

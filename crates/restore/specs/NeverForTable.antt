@@ -32,12 +32,12 @@ use Rattle.checkpoints.specs.Commit.{createdAdmission, commitAdmission, commitS
 use Rattle.checkpoints.specs.Abandon.{abandonStores}
 use Rattle.calls.specs.Read.{readAdmission, readValue, readStores}
 use Rattle.calls.specs.Write.{writeAdmission, writeStores}
-use Rattle.recovery.specs.declared.lost.Lost.{Lost}
+use Rattle.survivors.specs.declared.lost.Lost.{Lost}
 use Rattle.restore.specs.declared.call.Call.{Call}
 use Rattle.restore.specs.declared.call.Call.the-variants.{Format, Check, Stretch, Read, Write, Evict, Open, Create, Commit, Abandon, Recover}
-use Rattle.recovery.specs.Survivors.{survivors, lostOutside}
+use Rattle.survivors.specs.Survivors.{survivors, lostOutside, tooFew}
 use Rattle.recovery.specs.Sides.{itemsFit}
-use Rattle.recovery.specs.Recover.{scratchWords, survivorsFormed, tooFew, recoverAdmission, recoverChecked, recoverOf}
+use Rattle.recovery.specs.Recover.{scratchWords, survivorsFormed, recoverAdmission, recoverChecked, recoverOf}
 use Rattle.restore.specs.Call.{planOf}
 use Rattle.restore.specs.Memory.{Memory}
 use Rattle.restore.specs.Run.{geometryIn, isFormat}

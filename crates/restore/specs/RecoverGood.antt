@@ -18,8 +18,8 @@ use Rattle.homes.specs.KeptOn.{kept-begins}
 use Rattle.homes.specs.declared.admission.Admission.{Admission}
 use Rattle.homes.specs.declared.admission.Admission.the-variants.{Admitted, Turned}
 use Rattle.homes.specs.Plans.{planAdmitted}
-use Rattle.recovery.specs.declared.lost.Lost.{Lost}
-use Rattle.recovery.specs.Survivors.{survivors}
+use Rattle.survivors.specs.declared.lost.Lost.{Lost}
+use Rattle.survivors.specs.Survivors.{survivors}
 use Rattle.recovery.specs.Recover.{recoverStores, recoverAdmission, recoverChecked, recoverOf}
 use Rattle.recovery.specs.RecoverPlan.{recover-carries}
 use Rattle.recovery.specs.Ready.{Ready}

@@ -14,11 +14,11 @@ use Rattle.entries.specs.declared.check.Checked.{Checked}
 use Rattle.entries.specs.declared.check.Checked.the-variants.{Passed, Failed}
 use Rattle.entries.specs.Check.{sizesOf}
 use Rattle.homes.specs.Places.{placeBy}
-use Rattle.recovery.specs.declared.lost.Lost.{Lost}
-use Rattle.recovery.specs.declared.lost.Lost.the-variants.{Nobody, Node}
+use Rattle.survivors.specs.declared.lost.Lost.{Lost}
+use Rattle.survivors.specs.declared.lost.Lost.the-variants.{Nobody, Node}
 use Rattle.restore.specs.declared.call.Call.{Call}
 use Rattle.restore.specs.declared.call.Call.the-variants.{Format, Check, Stretch, Read, Write, Evict, Open, Create, Commit, Abandon, Recover}
-use Rattle.recovery.specs.Lost.{lostBy}
+use Rattle.survivors.specs.Lost.{lostBy}
 use Rattle.recovery.specs.Recover.{scratchWords, recoverOf}
 use Rattle.restore.specs.Run.{Step, geometryIn, wholeTable, planAt, run, Formatted}
 use Rattle.restore.specs.Strike.{canBeCut, liveOrNone, Attempt, brokenOff}

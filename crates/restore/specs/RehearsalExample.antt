@@ -5,7 +5,7 @@ use mathlib.Core.Bool.{false}
 use mathlib.Core.List.{List, [], _∷_}
 use native.Mathlib.Omega.{arith}
 use lib.ListN.{replicate}
-use Rattle.recovery.specs.declared.lost.Lost.the-variants.{Node}
+use Rattle.survivors.specs.declared.lost.Lost.the-variants.{Node}
 use Rattle.restore.specs.declared.call.Call.the-variants.{Format, Write, Open, Create, Commit}
 use Rattle.restore.specs.Memory.{savedIn}
 use Rattle.restore.specs.Run.{commitsFrom, memoryFrom, Formatted, tableBy}
@@ -42,14 +42,15 @@ use Rattle.checkpoints.specs.Open.{startAdmission}
 use Rattle.checkpoints.specs.Create.{sharesAt, sharerOf, partnerStores as createdPartner, createItem, noPartner, createPlan}
 use Rattle.checkpoints.specs.Commit.{commitStores, createdAdmission}
 use Rattle.counting.specs.Exists.{exists}
-use Rattle.recovery.specs.Lost.{lostBy}
-use Rattle.recovery.specs.Survivors.{survivorCount}
-use Rattle.recovery.specs.Sides.{forwardIn, copiesOn, itemFits, itemsFit}
+use Rattle.survivors.specs.Lost.{lostBy}
+use Rattle.survivors.specs.Survivors.{survivorCount, tooFewWith, tooFew}
+use Rattle.recovery.specs.Sides.{copiesOn, itemFits, itemsFit}
+use Rattle.survivors.specs.Direction.{forwardIn}
 use Rattle.recovery.specs.Rolling.{bringBack, settled, rollChange, rollStores}
 use Rattle.recovery.specs.Numbering.{holders, numberAfter, numberChange, numberStores}
 use Rattle.recovery.specs.Partners.{single, holderOf, takes, takesAfter, partnerOf, partnerChanges, partnerFrom, partnerStores, staged, partnersStores}
-use Rattle.recovery.specs.ClosingMarks.{largest, largestNumber, closingStores}
-use Rattle.recovery.specs.Recover.{followed, survivorStores, recoverStores, survivorsFormed, tooFewWith, tooFew, recoverAdmission, recoverChecked, recoverOf}
+use Rattle.survivors.specs.ClosingMarks.{largest, largestNumber, closingStores}
+use Rattle.recovery.specs.Recover.{followed, survivorStores, recoverStores, survivorsFormed, recoverAdmission, recoverChecked, recoverOf}
 use Rattle.restore.specs.Call.{planOf}
 use Rattle.restore.specs.Run.{run}
 

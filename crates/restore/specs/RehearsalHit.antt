@@ -14,8 +14,8 @@ use Rattle.table.specs.declared.geometry.Geometry.{Geometry}
 use Rattle.table.specs.Geometry.{markAt, entryAt}
 use Rattle.table.specs.View.{view}
 use Rattle.entries.specs.CheckFacts.{Shape, facts-sizes}
-use Rattle.recovery.specs.declared.lost.Lost.{Lost}
-use Rattle.recovery.specs.declared.lost.Lost.the-variants.{Nobody, Node}
+use Rattle.survivors.specs.declared.lost.Lost.{Lost}
+use Rattle.survivors.specs.declared.lost.Lost.the-variants.{Nobody, Node}
 use Rattle.restore.specs.Run.{geometryIn}
 use Rattle.restore.specs.RunPoints.{run-history}
 use Rattle.restore.specs.Strike.{liveOrNone, ofNode, Hit}

@@ -9,7 +9,7 @@ use Rattle.table.specs.Answers.{Plan, refuse, nothingLeft, carry}
 use Rattle.entries.specs.declared.check.Checked.the-variants.{Passed}
 use Rattle.entries.specs.CheckFacts.{Shape}
 use Rattle.homes.specs.SoundKept.{shape-after}
-use Rattle.recovery.specs.declared.lost.Lost.{Lost}
+use Rattle.survivors.specs.declared.lost.Lost.{Lost}
 use Rattle.restore.specs.declared.call.Call.{Call}
 use Rattle.restore.specs.declared.call.Call.the-variants.{Format, Check, Stretch, Read, Write, Evict, Open, Create, Commit, Abandon, Recover}
 use Rattle.recovery.specs.Recover.{recoverStores, recoverOf}

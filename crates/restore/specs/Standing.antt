@@ -10,10 +10,11 @@ use Rattle.table.specs.Copies.{copyNumber, copyValue, backCopy}
 use Rattle.entries.specs.Frames.{setsOf, setFrames, used}
 use Rattle.homes.specs.Kept.{Live, live-test, test-live}
 use Rattle.checkpoints.specs.Forward.{forwardCopy}
-use Rattle.recovery.specs.declared.lost.Lost.{Lost}
-use Rattle.recovery.specs.Survivors.{survivors}
-use Rattle.recovery.specs.Sides.{forwardIn, copyOn}
-use Rattle.recovery.specs.ClosingMarks.{largestNumber}
+use Rattle.survivors.specs.declared.lost.Lost.{Lost}
+use Rattle.survivors.specs.Survivors.{survivors}
+use Rattle.recovery.specs.Sides.{copyOn}
+use Rattle.survivors.specs.Direction.{forwardIn}
+use Rattle.survivors.specs.ClosingMarks.{largestNumber}
 use Rattle.recovery.specs.Ready.{Holds, Ready}
 use Rattle.restore.specs.Surviving.{survivor-live, survivor-entries, survivor-used, one-survives}
 

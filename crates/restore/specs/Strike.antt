@@ -9,12 +9,12 @@ use Rattle.table.specs.declared.geometry.Geometry.{Geometry}
 use Rattle.table.specs.Geometry.{markAt, entryAt}
 use Rattle.table.specs.View.{View, view, live}
 use Rattle.table.specs.Answers.{Plan, tableOf}
-use Rattle.recovery.specs.declared.lost.Lost.{Lost}
-use Rattle.recovery.specs.declared.lost.Lost.the-variants.{Nobody, Node}
+use Rattle.survivors.specs.declared.lost.Lost.{Lost}
+use Rattle.survivors.specs.declared.lost.Lost.the-variants.{Nobody, Node}
 use Rattle.restore.specs.declared.call.Call.{Call}
 use Rattle.restore.specs.declared.call.Call.the-variants.{Format, Check, Stretch, Read, Write, Evict, Open, Create, Commit, Abandon, Recover}
-use Rattle.recovery.specs.Survivors.{survivors, carries}
-use Rattle.recovery.specs.Recover.{scratchWords, tooFew, recoverOf}
+use Rattle.survivors.specs.Survivors.{survivors, carries, tooFew}
+use Rattle.recovery.specs.Recover.{scratchWords, recoverOf}
 use Rattle.restore.specs.Memory.{Memory, carried}
 use Rattle.restore.specs.Run.{Step, geometryIn, wholeTable, planAt}
 

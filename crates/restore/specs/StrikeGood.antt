@@ -17,11 +17,11 @@ use Rattle.entries.specs.declared.check.Checked.the-variants.{Passed}
 use Rattle.entries.specs.Check.{sizesOf}
 use Rattle.entries.specs.CheckFacts.{Shape, facts-sizes}
 use Rattle.homes.specs.Serves.{Serves}
-use Rattle.recovery.specs.declared.lost.Lost.{Lost}
-use Rattle.recovery.specs.declared.lost.Lost.the-variants.{Nobody, Node}
+use Rattle.survivors.specs.declared.lost.Lost.{Lost}
+use Rattle.survivors.specs.declared.lost.Lost.the-variants.{Nobody, Node}
 use Rattle.restore.specs.declared.call.Call.the-variants.{Commit, Recover}
-use Rattle.recovery.specs.Survivors.{survivors, lostOutside}
-use Rattle.recovery.specs.Recover.{recoverStores, tooFew}
+use Rattle.survivors.specs.Survivors.{survivors, lostOutside, tooFew}
+use Rattle.recovery.specs.Recover.{recoverStores}
 use Rattle.recovery.specs.RecoverPlan.{few-refused, few-fourteen}
 use Rattle.recovery.specs.ReadyAccepts.{ready-formed}
 use Rattle.recovery.specs.Ready.{Ready}

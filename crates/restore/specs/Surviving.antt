@@ -8,9 +8,9 @@ use Rattle.table.specs.View.{View}
 use Rattle.table.specs.Puts.{put₁-case}
 use Rattle.entries.specs.Frames.{framesAt, used}
 use Rattle.homes.specs.Kept.{Live}
-use Rattle.recovery.specs.declared.lost.Lost.{Lost}
-use Rattle.recovery.specs.declared.lost.Lost.the-variants.{Nobody, Node}
-use Rattle.recovery.specs.Survivors.{survivors}
+use Rattle.survivors.specs.declared.lost.Lost.{Lost}
+use Rattle.survivors.specs.declared.lost.Lost.the-variants.{Nobody, Node}
+use Rattle.survivors.specs.Survivors.{survivors}
 
 module _ (g : Geometry) (u : View) where
   -- its mark is as it was

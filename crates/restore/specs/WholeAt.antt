@@ -24,7 +24,7 @@ use Rattle.checkpoints.specs.Commit.{commitAdmission, commitStores}
 use Rattle.checkpoints.specs.Abandon.{abandonStores}
 use Rattle.entries.specs.Dirty.{ownerOf, dirtyItem, noneDirty}
 use Rattle.checkpoints.specs.Checkpoint.{openAdmission}
-use Rattle.recovery.specs.declared.lost.Lost.{Lost}
+use Rattle.survivors.specs.declared.lost.Lost.{Lost}
 use Rattle.restore.specs.declared.call.Call.{Call}
 use Rattle.restore.specs.declared.call.Call.the-variants.{Format, Check, Stretch, Read, Write, Evict, Open, Create, Commit, Abandon, Recover}
 use Rattle.recovery.specs.Recover.{recoverOf}

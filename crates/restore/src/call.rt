@@ -1,7 +1,7 @@
 // A call as a value, with any arguments, and the one function that carries any of them out.
 ghost use Rattle.restore.specs.CallCode.{CarriedOut};
 use homes::places::Place;
-use recovery::lost::Lost;
+use survivors::lost::Lost;
 use table::answers::Answer;
 
 pub enum Call {

@@ -9,7 +9,7 @@ ghost use Rattle.restore.specs.Rehearsal.{callBy, callCount, callAt, ste
 ghost use Rattle.restore.specs.Rehearsed.{Rehearsed};
 use crate::call::Call;
 use entries::check::Checked;
-use recovery::lost::Lost;
+use survivors::lost::Lost;
 use table::answers::Answer;
 use table::geometry::Geometry;
 use table::stores;
@@ -22,7 +22,7 @@ fn call_by(operation: u64, x: u64, y: u64, z: u64, flag: u64) -> Call
     ensures { λ r. ⌜ r ≡ callBy operation x y z flag ⌝ }
 {
     let place = homes::places::place_by(flag);
-    let lost = recovery::lost::lost_by(flag, x);
+    let lost = survivors::lost::lost_by(flag, x);
     if operation == 0 {
         return Call::Format {
             nodes: x,

@@ -4,11 +4,11 @@ use mathlib.Core.Path.{_≡_, refl}
 use mathlib.Core.List.{[], _∷_, _++_, map}
 use lib.ListN.{replicate}
 use Rattle.homes.specs.declared.places.Place.the-variants.{Current, Kept}
-use Rattle.recovery.specs.declared.lost.Lost.the-variants.{Nobody, Node}
+use Rattle.survivors.specs.declared.lost.Lost.the-variants.{Nobody, Node}
 use Rattle.restore.specs.declared.call.Call.the-variants.{Format, Read, Write, Evict, Open, Create, Commit, Abandon, Recover}
 use Rattle.steps.specs.declared.decode.Step.the-variants.{Asked, Malformed}
 use Rattle.homes.specs.Places.{placeBy}
-use Rattle.recovery.specs.Lost.{lostBy}
+use Rattle.survivors.specs.Lost.{lostBy}
 use Rattle.steps.specs.Steps.{formatStep, readStep, writeStep, evictStep, bareStep, recoverStep, stepBy, stepOf}
 use Rattle.steps.specs.Records.{recordOf}
 

@@ -111,7 +111,7 @@ fn recover_step(first: u64, second: u64) -> Step
         & ((rest_of(first) == 0)
             & ((second == 0) & ((place_of(first) == 0) | (node_of(first) == 0))))
     {
-        let lost = recovery::lost::lost_by(place_of(first), node_of(first));
+        let lost = survivors::lost::lost_by(place_of(first), node_of(first));
         return Step::Asked(Call::Recover { lost });
     }
     Step::Malformed

@@ -11,7 +11,7 @@ pub(crate) enum Asked {
 // The operations are quay's; 9 is Check and 10 is Stretch.
 pub(crate) fn call_of(v: Vector) -> Asked {
     let place = homes::places::place_by(v.choice);
-    let lost = recovery::lost::lost_by(v.choice, v.first);
+    let lost = survivors::lost::lost_by(v.choice, v.first);
     let operation = v.operation;
     match operation {
         0 => Asked::Known(Call::Format {

@@ -1,7 +1,6 @@
 -- `back_weight` meets its contract: an arm for each value of the six top bits. Assumes nothing.
 use mathlib.Core.Path.{sym, ap}
 use mathlib.Core.Bool.{false}
-use Rattle.table.specs.Changes.{changeOf}
 use Rattle.entries.specs.Survey.{codesForm}
 use Rattle.recovery.specs.Census.{sideBits}
 use Rattle.recovery.specs.CensusEntry.{none-left}

@@ -5,7 +5,7 @@ use native.Mathlib.Omega.{arith}
 use lib.ListN.{length}
 use Rattle.counting.specs.Counting.{every, every-none, every-next}
 use Rattle.table.specs.View.{view}
-use Rattle.recovery.specs.Survivors.{survivors}
+use Rattle.survivors.specs.Survivors.{survivors}
 use Rattle.recovery.specs.Notes.{equalTo, equal-none}
 use Rattle.recovery.specs.Census.{CensusTo}
 use Rattle.recovery.specs.CensusLaws.{nodeFormed, census-start, nodes-noted}

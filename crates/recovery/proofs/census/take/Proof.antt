@@ -1,6 +1,6 @@
 -- `take` meets its contract: what the nodes and the tallies tell. Assumes nothing.
 use Rattle.table.specs.View.{view}
-use Rattle.recovery.specs.Survivors.{survivors}
+use Rattle.survivors.specs.Survivors.{survivors}
 use Rattle.recovery.specs.CensusLaws.{taken}
 use borrow.Author.Needs.{needs}
 use Rattle.recovery.proofs.census.take.Statement.{statement}

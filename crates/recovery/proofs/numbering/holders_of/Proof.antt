@@ -2,7 +2,7 @@
 use Prim.Native.Nat.{_≤_, _-_}
 use native.Mathlib.Omega.{arith}
 use Rattle.table.specs.View.{view}
-use Rattle.recovery.specs.Survivors.{survivors}
+use Rattle.survivors.specs.Survivors.{survivors}
 use Rattle.recovery.specs.NumberingCode.{HoldersTo, holders-start, holders-turn, holders-end}
 use borrow.Author.Needs.{needs}
 use Rattle.recovery.proofs.numbering.holders_of.Statement.{statement}

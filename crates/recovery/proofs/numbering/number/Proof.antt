@@ -3,7 +3,7 @@ use Prim.Native.Nat.{_≤_, _-_}
 use mathlib.Core.Path.{refl}
 use Rattle.table.specs.Stores.{Stored}
 use Rattle.table.specs.View.{view}
-use Rattle.recovery.specs.Survivors.{survivors}
+use Rattle.survivors.specs.Survivors.{survivors}
 use Rattle.recovery.specs.NumberingCode.{numbersBefore, numbers-start, numbers-ready, numbers-turn, numbers-end}
 use borrow.Author.Needs.{needs}
 use Rattle.recovery.proofs.numbering.number.Statement.{statement}

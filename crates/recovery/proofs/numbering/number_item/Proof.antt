@@ -4,7 +4,7 @@ use native.Mathlib.Omega.{arith}
 use Rattle.table.specs.Stores.{Stored, loop-starts, loop-ends}
 use Rattle.table.specs.View.{view}
 use Rattle.table.specs.Pass.{pass}
-use Rattle.recovery.specs.Survivors.{survivors}
+use Rattle.survivors.specs.Survivors.{survivors}
 use Rattle.recovery.specs.Numbering.{numberChange}
 use Rattle.recovery.specs.NumberingCode.{HoldersTo, holders-start, holders-turn, code-found, number-turn}
 use borrow.Author.Needs.{needs}

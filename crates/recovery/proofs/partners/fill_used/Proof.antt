@@ -1,7 +1,7 @@
 -- `fill_used` meets its contract: the loop has filled the words before `node`. Assumes nothing.
 use Prim.Native.Nat.{_≤_, _-_}
 use Rattle.table.specs.View.{view}
-use Rattle.recovery.specs.Survivors.{survivors}
+use Rattle.survivors.specs.Survivors.{survivors}
 use Rattle.recovery.specs.PartnersCode.{Filled, filled-start, filled-turn, filled-end}
 use borrow.Author.Needs.{needs}
 use Rattle.recovery.proofs.partners.fill_used.Statement.{statement}

@@ -4,7 +4,7 @@ use mathlib.Core.Path.{_≡_}
 use native.Mathlib.Omega.{arith}
 use Rattle.counting.specs.First.{first, first-starts}
 use Rattle.table.specs.View.{view}
-use Rattle.recovery.specs.Survivors.{survivors}
+use Rattle.survivors.specs.Survivors.{survivors}
 use Rattle.recovery.specs.PartnersCode.{takesByAfter, partner-found, partner-on, partner-none, found, after-entry}
 use borrow.Author.Needs.{needs}
 use Rattle.recovery.proofs.partners.partner_of.Statement.{statement}

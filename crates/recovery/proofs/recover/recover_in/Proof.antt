@@ -2,7 +2,7 @@
 use mathlib.Core.Path.{refl}
 use native.Mathlib.Omega.{arith}
 use Rattle.table.specs.View.{view}
-use Rattle.recovery.specs.Survivors.{survivors}
+use Rattle.survivors.specs.Survivors.{survivors}
 use Rattle.recovery.specs.SidesCode.{fits-chosen}
 use Rattle.recovery.specs.RecoverCode.{roomy-takable, recover-turned, recover-admitted, recover-ready, recover-refused, recover-done}
 use borrow.Author.Needs.{needs}

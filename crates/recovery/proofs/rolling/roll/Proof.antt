@@ -5,7 +5,7 @@ use lib.ListN.{length}
 use Rattle.table.specs.Stores.{Stored}
 use Rattle.table.specs.View.{view}
 use Rattle.checkpoints.specs.Checkpoint.{entriesBefore, entries-start}
-use Rattle.recovery.specs.Survivors.{survivors}
+use Rattle.survivors.specs.Survivors.{survivors}
 use Rattle.recovery.specs.Rolling.{rollChange}
 use Rattle.recovery.specs.RollingCode.{survivor-node, rolled-all}
 use borrow.Author.Needs.{needs}
