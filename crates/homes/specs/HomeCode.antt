@@ -13,7 +13,7 @@ use Rattle.table.specs.Stores.{Stored, StoredIn, entryStore, stateTo, valueTo, 
 use Rattle.table.specs.View.{View}
 use Rattle.counting.specs.Tests.{by-cases, or-left, or-right}
 use Rattle.counting.specs.First.{first, first-turns, first-found}
-use Rattle.entries.specs.Frames.{frameFree, ampleFor, halfFree, frameFreeBy, ample-free, free-by}
+use Rattle.entries.specs.Frames.{frameFree, ampleFor, halfFree, frameFreeBy, ample-free, free-by, free-told}
 use Rattle.homes.specs.declared.places.Place.{Place}
 use Rattle.homes.specs.declared.places.Place.the-variants.{Current, Kept}
 use Rattle.homes.specs.declared.home.Arrival.{Arrival}
@@ -66,6 +66,12 @@ module _ (g : Geometry) (v : View) (h b : ℕ) {framed : Bool} (p : framed ≡ h
   pub drops-shared : framed ≡ false → {s : ℕ} → s ≡ sharedItem g v h → s ≡ droppedItem g v h b
   unfolding droppedItem
   drops-shared e q = rw (← p, e) q
+
+-- frames are ample and a place of the entry is Invalid: nothing is dropped
+pub drops-none-told :
+    (g : Geometry) (v : View) (h b : ℕ) {a : Bool} {w c k : ℕ} → a ≡ ampleFor g b → w ≡ v .entry h b .state → c ≡ currentOf w → k ≡ keptOf w
+    → (a && (eqb c invalid || eqb k invalid)) ≡ true → g .items ≡ droppedItem g v h b
+drops-none-told g v h b {w = w} p e q r t = drops-none g v h b (told-framed g v h b (free-told g v h b w p q r t) e) refl
 
 -- ---- which node fits
 

@@ -139,13 +139,20 @@ fn current_left(current: u8, dropped: u16, item: u16) -> u8
     current
 }
 
-// What a home makes of a copy that comes.
-pub fn arrival_at(table: &[u64], g: Geometry, place: Place, h: u8, item: u16) -> Arrival
+// What a home makes of a copy that comes, by the state word of its entry and the item that it drops.
+pub(crate) fn arrival_by(
+    table: &[u64],
+    g: Geometry,
+    place: Place,
+    h: u8,
+    item: u16,
+    state: u64,
+    dropped: u16,
+) -> Arrival
+    requires { ⌜ (state ≡ view g (now table) .entry h item .state) × (dropped ≡ droppedItem g (view g (now table)) h item) ⌝ }
     ensures { λ r. ⌜ r ≡ arrivalOf g (view g (now (table .entry))) place h item ⌝ }
 {
-    let state = table::stores::state_at(table, g, h, item);
     let takeover = crate::places::shared_in(place, state);
-    let dropped = dropped_item(table, g, h, item, state);
     let items = g.items;
     let drops = dropped < items;
     let beside = table::stores::state_at(table, g, h, dropped);
@@ -159,6 +166,15 @@ pub fn arrival_at(table: &[u64], g: Geometry, place: Place, h: u8, item: u16) ->
         current,
         kept,
     }
+}
+
+// What a home makes of a copy that comes.
+pub fn arrival_at(table: &[u64], g: Geometry, place: Place, h: u8, item: u16) -> Arrival
+    ensures { λ r. ⌜ r ≡ arrivalOf g (view g (now (table .entry))) place h item ⌝ }
+{
+    let state = table::stores::state_at(table, g, h, item);
+    let dropped = dropped_item(table, g, h, item, state);
+    arrival_by(table, g, place, h, item, state, dropped)
 }
 
 // The Shared copy that a home drops, if it drops one.

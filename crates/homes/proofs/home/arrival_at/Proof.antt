@@ -1,13 +1,7 @@
--- `arrival_at` meets its contract: each field as it was read. Assumes nothing.
-use Rattle.homes.specs.HomeCode.{arrival-read}
+-- `arrival_at` meets its contract: by what was read and decided. Assumes nothing.
 use borrow.Author.Needs.{needs}
 use Rattle.homes.proofs.home.arrival_at.Statement.{statement}
 use Rattle.homes.proofs.home.arrival_at.Tie as tie
-
-returns : tie.Need-returns
-returns c =
-    let d = c .before .before .before .before in
-    arrival-read _ _ _ _ _ (d .before .before .state-at .ensures) (d .before .shared-in .ensures) (d .dropped-item .ensures) (c .before .before .before .state-at2 .ensures) (c .before .before .current-of .ensures) (c .before .current-left .ensures) (c .kept-of .ensures)
 
 pub arrival-at-spec : {M : Type 1} → statement M
 arrival-at-spec =
@@ -15,9 +9,5 @@ arrival-at-spec =
     (tie.spec
     (λ c κs. search needs)
     (λ c κs. search needs)
-    (λ c κs. search needs)
-    (λ c κs. search needs)
-    (λ c κs. search needs)
-    (λ c κs. search needs)
-    (λ c κs. search needs)
-    returns)
+    (λ c κs. (c .before .state-at .ensures, c .dropped-item .ensures))
+    (λ c. c .arrival-by .ensures))
