@@ -9,7 +9,7 @@ use native.Mathlib.Numerals.{add-one}
 use lib.Dec.{eqb}
 use lib.ListN.{length, getD, set, length-set}
 use lib.Seq.{getD-set-same, getD-set-other}
-use borrow.Author.Tests.{eq-eqb, ne-eqb, lt-ltb}
+use borrow.Author.Tests.{lt-ltb}
 use Rattle.counting.specs.Tests.{and-both, and-true}
 use Rattle.counting.specs.Counting.{every, every-none, every-next, sum, sum-none, sum-next, count, count-none, count-le, below}
 use Rattle.table.specs.declared.geometry.Geometry.{Geometry}
@@ -23,14 +23,6 @@ use Rattle.entries.specs.SurveyStep.{noted-blank, noted-room, noted-next
 use Rattle.entries.specs.SurveyGather.{next-occupied, all-blank, count-occupied}
 
 -- ---- one entry
-
--- by which way the code has chosen
-module _ (t x y : ℕ) {r : ℕ} where
-  pub chosen-first : t ≡ 0 → r ≡ x → r ≡ cond (eqb t 0) x y
-  chosen-first e q = rw (eq-eqb t 0 e) q
-
-  pub chosen-second : (t ≡ 0 → ⊥) → r ≡ y → r ≡ cond (eqb t 0) x y
-  chosen-second d q = rw (ne-eqb t 0 d) q
 
 pub entry-noted :
     (s x y j : ℕ) (notes : List ℕ) {w f h met kept : ℕ} → w ≡ weightOf (topOf s) → f ≡ firstWith (getD notes j 0) (getD notes (j + 1) 0) x

@@ -14,7 +14,7 @@ use lib.Seq.{getD-set-same, getD-set-other}
 use Rattle.counting.specs.Tests.{by-cases, and-both}
 use borrow.Author.Tests.{eqb-true, lt-ltb}
 use Rattle.table.specs.declared.geometry.Geometry.{Geometry}
-use Rattle.table.specs.Geometry.{wordsOf, entryAt, Placed, entry-within, product}
+use Rattle.table.specs.Geometry.{wordsOf, entryAt, Placed, entry-within}
 use Rattle.table.specs.View.{View, view, entryIn, entry-read}
 use Rattle.entries.specs.Row.{rowState, row-state, row-read}
 
@@ -251,12 +251,3 @@ module _ (g : Geometry) (t : List ℕ) (n b : ℕ) (h : HasEntry g t n b) {at : 
 
   pub entry-value : getD t (at + 1) 0 ≡ view g t .entry n b .value
   entry-value = ap (λ i. getD t (i + 1) 0) a ∙ sym (ap (λ e. e .value) read)
-
--- the entry of the node after
-pub entry-next : (g : Geometry) (n b : ℕ) {at : ℕ} → at ≡ entryAt g n b → at + 3 * g .items ≡ entryAt g (n + 1) b
-entry-next g n b a = let e : (n + 1) * g .items ≡ n * g .items + g .items = omega arith in omega (arith, a, e)
-
--- of narrow numbers
-pub entry-near :
-    (g : Geometry) (n b : ℕ) {at : ℕ} → n ≤ 255 → g .nodes ≤ 255 → g .items ≤ 65535 → b ≤ 65535 → at ≡ entryAt g n b → at < 1000000000
-entry-near g n b hn hg hi hb a = omega (arith, a, product 255 65535 hn hi)

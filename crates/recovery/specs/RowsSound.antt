@@ -54,9 +54,6 @@ module _ (v : View) (n : ℕ) {forms : Bool} {frames : ℕ} where
     row-turn q e f h s =
         rw (reached-next l k) (row-next (getD l k 0) (listed-turn (λ i. RowTo v n i forms frames) (stateIn v n) row-blank o k q r) e f h s)
 
-    pub row-small : k < count → frames ≤ 2 * m
-    row-small q = let a = o .ascends k q in let b = o .below k q in omega (arith, r .few)
-
     pub row-all : k ≤ count → count ≤ k → RowTo v n m forms frames
     row-all p q = listed-end (λ i. RowTo v n i forms frames) (stateIn v n) row-blank o k p q r
 
