@@ -6,6 +6,7 @@ use mathlib.Core.Bool.{cond}
 use mathlib.Core.List.{List, [], _∷_, map}
 use native.Mathlib.Omega.{arith}
 use native.Mathlib.Numerals.{add-one}
+use native.Mathlib.Decide.{decLt}
 use lib.Dec.{eqb, ltb}
 use borrow.Author.Tests.{eq-eqb, ne-eqb, lt-ltb, le-ltb}
 use Rattle.table.specs.declared.geometry.Geometry.{Geometry}
@@ -42,6 +43,20 @@ pub next-far : (around ahead : ℕ) → 2 ≤ ahead → ahead - 2 ≡ nextAhead 
 unfolding nextAhead
 next-far around ahead h = rw (le-ltb ahead 2 h)
 
+-- as the code reckons it
+module _ (around ahead : ℕ) {turn : ℕ} (few : ahead ≤ 256) (near : around ≤ 255) (e : turn ≡ cond (ltb ahead 2) 0 (around + 2)) where
+  pub turn-fits : turn ≤ ahead + around
+  turn-fits = elim (decLt ahead 2) [
+    | yes l ↦ (let z : turn ≡ 0 = e ∙ rw (lt-ltb ahead 2 l) refl in omega arith)
+    | no l ↦ (let z : turn ≡ around + 2 = e ∙ rw (le-ltb ahead 2 (omega arith)) refl in omega arith)
+  ]
+
+  pub next-turn : (ahead + around - turn ≡ nextAhead around ahead) × (ahead + around - turn ≤ 256)
+  next-turn = elim (decLt ahead 2) [
+    | yes l ↦ (let z : turn ≡ 0 = e ∙ rw (lt-ltb ahead 2 l) refl in (omega (arith, next-near around ahead l), omega arith))
+    | no l ↦ (let z : turn ≡ around + 2 = e ∙ rw (le-ltb ahead 2 (omega arith)) refl in (omega (arith, next-far around ahead (omega arith)), omega arith))
+  ]
+
 module _ (first second ahead : ℕ) where
   pub place-first : ahead ≡ 0 → first ≡ placeAhead first second ahead
   unfolding placeAhead
@@ -66,22 +81,24 @@ fresh-then first second third = stored-then first (stored-then second third)
 pub record Row (g : Geometry) (n first second around left : ℕ) (b ahead : ℕ) (t t′ : List ℕ) (left′ : ℕ) : Type 0 where
   pub within : b ≤ g .items
   pub distance : ahead ≡ aheadAt around n b
+  pub few : ahead ≤ 256
   pub stored : Stored g left (runs (rowEntry n first second around) b) t t′ left′
 
 module _ {g : Geometry} {n first second around left : ℕ} {t : List ℕ} where
-  pub row-starts : Row g n first second around left 0 n t t left
+  pub row-starts : n ≤ 256 → Row g n first second around left 0 n t t left
   unfolding aheadAt
-  row-starts = record { within = omega arith; distance = refl; stored = loop-starts g (rowEntry n first second around) left t }
+  row-starts h = record { within = omega arith; distance = refl; few = h; stored = loop-starts g (rowEntry n first second around) left t }
 
   pub row-turns :
       {b ahead place left₁ left₂ r : ℕ} {t₁ t₂ : List ℕ} → Row g n first second around left b ahead t t₁ left₁ → b < g .items
-      → place ≡ placeAhead first second ahead → StoredIn g left₁ n b (freshEntry place) t₁ t₂ left₂ → r ≡ nextAhead around ahead
+      → place ≡ placeAhead first second ahead → StoredIn g left₁ n b (freshEntry place) t₁ t₂ left₂ → (r ≡ nextAhead around ahead) × (r ≤ 256)
       → Row g n first second around left (b + 1) r t t₂ left₂
   unfolding aheadAt
   row-turns {b} w h p s e =
       record {
         within = omega arith;
-        distance = rw add-one (e ∙ ap (nextAhead around) (w .distance));
+        distance = rw add-one (e .0 ∙ ap (nextAhead around) (w .distance));
+        few = e .1;
         stored =
             loop-turns (rowEntry n first second around) b (w .stored)
             (stored-as (ap (λ x. map (entryStore n b) (freshEntry x)) (ap (placeAhead first second) (sym (w .distance)) ∙ sym p)) s);

@@ -1,11 +1,13 @@
 // Reading and storing words of the table. One function stores, and it alone looks at the limit; the others say which word they mean.
 ghost use mathlib.Core.Path.{_≡_};
 ghost use mathlib.Core.List.{[], _∷_};
+ghost use Prim.Native.Nat.{_≤_};
 ghost use lib.ListN.{getD};
 ghost use Rattle.table.specs.Stores.{Wrote, Stored, StoredIn, runs, sizeStore, markStore, entryStore, stateTo, valueTo, keptTo};
 ghost use Rattle.table.specs.Rows.{nextAhead, placeAhead, freshEntry, rowEntry};
 ghost use Rattle.table.specs.View.{entryWord, view};
 use crate::geometry::Geometry;
+use counting::choice;
 
 // The word at a place, or 0 past the end.
 pub fn word(table: &[u64], at: usize) -> u64
@@ -140,14 +142,14 @@ fn place_ahead(ahead: u64, first: u8, second: u8) -> u8
     crate::words::INVALID
 }
 
-// How far the node is ahead at the item after.
+// How far the node is ahead at the item after: `around` more, and a whole turn less unless it is at a copy.
 fn next_ahead(ahead: u64, around: u8) -> u64
-    ensures { λ r. ⌜ r ≡ nextAhead around ahead ⌝ }
+    requires { ⌜ ahead ≤ 256 ⌝ }
+    ensures { λ r. ⌜ (r ≡ nextAhead around ahead) × (r ≤ 256) ⌝ }
 {
-    if ahead < 2 {
-        return ahead + around as u64;
-    }
-    ahead - 2
+    let more = around as u64;
+    let turn = choice::either(ahead < 2, 0, more + 2);
+    ahead + more - turn
 }
 
 // Stores the three words of a fresh entry.
