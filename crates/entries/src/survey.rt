@@ -77,26 +77,17 @@ fn gather_four(table: &[u64], start: usize, offset: usize, list: &mut [u16], cou
     gather_one(table, start, offset + 9, list, third)
 }
 
-// Gathers eight entries more.
-fn gather_eight(table: &[u64], start: usize, offset: usize, list: &mut [u16], count: usize) -> usize
-    requires { ⌜ (start + offset + 21 < length (now table)) × ((count + 7 < length (now list)) × ((count + 7 < 256) × (offset + 21 < 768))) ⌝ }
-    ensures { λ r. ⌜ GatheredMore (rowState (now (table .entry)) start) offset 8 (now (list .entry)) (now (list .exit)) count r ⌝ }
-{
-    let first = gather_four(table, start, offset, list, count);
-    gather_four(table, start, offset + 12, list, first)
-}
-
-// Gathers the entries of a row eight by eight, as far as that goes.
-fn gather_eights(table: &[u64], start: usize, items: u16, list: &mut [u16]) -> usize
+// Gathers the entries of a row four by four, as far as that goes.
+fn gather_fours(table: &[u64], start: usize, items: u16, list: &mut [u16]) -> usize
     requires { ⌜ (start + 3 * items ≤ length (now table)) × ((items ≤ length (now list)) × (items ≤ 256)) ⌝ }
-    ensures { λ r. ⌜ Gathering (rowState (now (table .entry)) start) (8 * (items / 8)) (now (list .entry)) (now (list .exit)) r ⌝ }
+    ensures { λ r. ⌜ Gathering (rowState (now (table .entry)) start) (4 * (items / 4)) (now (list .entry)) (now (list .exit)) r ⌝ }
 {
-    let most = 24 * ((items / 8) as usize);
+    let most = 12 * ((items / 4) as usize);
     let mut count: usize = 0;
     let mut offset: usize = 0;
     while offset < most {
-        count = gather_eight(table, start, offset, list, count);
-        offset += 24;
+        count = gather_four(table, start, offset, list, count);
+        offset += 12;
     }
     count
 }
@@ -107,8 +98,8 @@ fn occupied(table: &[u64], start: usize, items: u16, list: &mut [u16]) -> usize
     ensures { λ r. ⌜ Gathered (rowState (now (table .entry)) start) items (now (list .exit)) r ⌝ }
 {
     let width = Geometry::ENTRY_WORDS * (items as usize);
-    let mut count = gather_eights(table, start, items, list);
-    let mut offset = 24 * ((items / 8) as usize);
+    let mut count = gather_fours(table, start, items, list);
+    let mut offset = 12 * ((items / 4) as usize);
     while offset < width {
         count = gather_one(table, start, offset, list, count);
         offset += Geometry::ENTRY_WORDS;

@@ -18,7 +18,7 @@ abbrev μ-loop : tie.MeasureT-loop
 loop-holds : tie.Need-loop-holds Inv-loop μ-loop
 loop-holds c =
     let s = c .before .before in
-    (8 * (s .before .before .before .before .args .items / 8), (omega arith, (omega arith, gathering-on (s .gather-eights .ensures))))
+    (4 * (s .before .before .before .before .args .items / 4), (omega arith, (omega arith, gathering-on (s .gather-fours .ensures))))
 
 loop-again : tie.Need-loop-again Inv-loop μ-loop
 loop-again c =

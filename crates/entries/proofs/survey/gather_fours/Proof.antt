@@ -1,16 +1,16 @@
--- `gather_eights` meets its contract: the entries before the offset are gathered. Assumes nothing.
+-- `gather_fours` meets its contract: the entries before the offset are gathered. Assumes nothing.
 use Prim.Native.Nat.{ℕ, _+_, _-_, _*_, _/_, _≤_}
 use mathlib.Core.Path.{_≡_}
 use native.Mathlib.Omega.{arith}
 use borrow.Author.Needs.{needs}
 use Rattle.entries.specs.Row.{rowState}
 use Rattle.entries.specs.SurveyGather.{Gathering, gathering-at, gathering-none}
-use Rattle.entries.proofs.survey.gather_eights.Statement.{statement}
-use Rattle.entries.proofs.survey.gather_eights.Tie as tie
+use Rattle.entries.proofs.survey.gather_fours.Statement.{statement}
+use Rattle.entries.proofs.survey.gather_fours.Tie as tie
 
 abbrev Inv-loop : tie.InvT-loop
 Inv-loop table start items list₀ most count₀ offset₀ list count offset =
-    (k : ℕ) × ((offset ≡ 24 * k) × ((k ≤ items / 8) × Gathering (rowState table start) (8 * k) list₀ list count))
+    (k : ℕ) × ((offset ≡ 12 * k) × ((k ≤ items / 4) × Gathering (rowState table start) (4 * k) list₀ list count))
 
 abbrev μ-loop : tie.MeasureT-loop
 μ-loop table start items list₀ most count₀ offset₀ list count offset = most - offset
@@ -19,10 +19,10 @@ loop-again : tie.Need-loop-again Inv-loop μ-loop
 loop-again c =
     let s = c .before .before in
     let i = s .before .before .before .loop .inv in
-    (i .0 + 1, (omega arith, (omega arith, gathering-at (s .gather-eight .ensures .gathers (omega arith) (omega arith) (i .1 .1 .1)) (omega arith))))
+    (i .0 + 1, (omega arith, (omega arith, gathering-at (s .gather-four .ensures .gathers (omega arith) (omega arith) (i .1 .1 .1)) (omega arith))))
 
-pub gather-eights-spec : {M : Type 1} → statement M
-gather-eights-spec =
+pub gather-fours-spec : {M : Type 1} → statement M
+gather-fours-spec =
     tie.close
     (tie.spec
     Inv-loop
