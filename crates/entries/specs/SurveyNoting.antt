@@ -6,11 +6,13 @@ use mathlib.Core.List.{List}
 use native.Mathlib.Omega.{arith}
 use native.Mathlib.Decide.{ℕ-discrete}
 use native.Mathlib.Numerals.{add-one}
+use lib.Bits.{bitOr, bitXor}
 use lib.Dec.{eqb}
 use lib.ListN.{length, getD, set, length-set}
 use lib.Seq.{getD-set-same, getD-set-other}
 use borrow.Author.Tests.{lt-ltb}
 use Rattle.counting.specs.Tests.{and-both, and-true}
+use Rattle.counting.specs.Differences.{none-gathered, none-differ}
 use Rattle.counting.specs.Counting.{every, every-none, every-next, sum, sum-none, sum-next, count, count-none, count-le, below}
 use Rattle.table.specs.declared.geometry.Geometry.{Geometry}
 use Rattle.table.specs.Geometry.{entryAt, Placed, entry-within, product}
@@ -28,11 +30,14 @@ pub entry-noted :
     (s x y j : ℕ) (notes : List ℕ) {w f h met kept : ℕ} → w ≡ weightOf (topOf s) → f ≡ firstWith (getD notes j 0) (getD notes (j + 1) 0) x
     → h ≡ keptWith (getD notes j 0) (getD notes (j + 2) 0) y → met ≡ cond (eqb (w % 32) 0) f x → kept ≡ cond (eqb (w / 32 % 1024) 0) h y
     → EntryNoted s x y j notes (set (set (set notes j (getD notes j 0 + w)) (j + 1) f) (j + 2) h)
-    (record { frames = w / 2 ^ 45; same = eqb f met && (eqb h kept && lowForm s) })
-entry-noted s x y j notes a b c d e = record {
+    (record { frames = w / 2 ^ 45; differ = bitOr (bitXor f met) (bitOr (bitXor h kept) (s % 2 ^ 58)) })
+entry-noted s x y j notes {f = f} {h} {met} {kept} a b c d e = record {
   stored = rw (← a, ← b, ← c) refl;
   frames = ap (λ w. w / 2 ^ 45) a;
-  same = rw (← a, ← b, ← c, d, e) refl;
+  same =
+      none-gathered (bitXor f met) (bitOr (bitXor h kept) (s % 2 ^ 58))
+      ∙ ap₂ _&&_ (none-differ f met) (none-gathered (bitXor h kept) (s % 2 ^ 58) ∙ ap (λ z. z && lowForm s) (none-differ h kept))
+      ∙ rw (← a, ← b, ← c, d, e) refl;
 }
 
 -- three words in a row are written
@@ -133,7 +138,7 @@ module _ (v : View) (m n : ℕ) where
         passed-frames : r .frames < 2 ^ 19
         passed-frames = omega (arith, q .frames, passed-room)
 
-        passed-next : Passed v m n (b + 1) notes′ (frames + r .frames) (same && r .same)
+        passed-next : Passed v m n (b + 1) notes′ (frames + r .frames) (same && eqb (r .differ) 0)
         passed-next = record {
           long = omega (arith, p .long, size);
           done = λ i h. below (NotedAs (n + 1) notes′) (let z : i < suc b = omega arith in z) (λ k. moved (n + 1) i (λ (e : i ≡ b). omega arith) (p .done i k)) noted;
@@ -206,17 +211,17 @@ pub record RowSet (g : Geometry) (t : List ℕ) (n : ℕ) (list notes : List ℕ
   pub gathered : Gathered (rowState t start) (g .items) list r
 
 -- the items below p are noted; k of their entries hold something
-pub record NotedTo (g : Geometry) (t : List ℕ) (n start p k : ℕ) (notes : List ℕ) (frames : ℕ) (same : Bool) : Type 0 where
+pub record NotedTo (g : Geometry) (t : List ℕ) (n start p k : ℕ) (notes : List ℕ) (frames differ : ℕ) : Type 0 where
   pub within : p ≤ g .items
   pub counted : count (occupies (rowState t start)) p ≡ k
-  pub passed : Passed (view g t) (g .items) n p notes frames same
+  pub passed : Passed (view g t) (g .items) n p notes frames (eqb differ 0)
 
 -- in a turn: the next entry that holds something is that of item b, whose words are noted from j on
-pub record Turning (g : Geometry) (t : List ℕ) (n start j k : ℕ) (notes : List ℕ) (frames : ℕ) (same : Bool) (b : ℕ) : Type 0 where
+pub record Turning (g : Geometry) (t : List ℕ) (n start j k : ℕ) (notes : List ℕ) (frames differ b : ℕ) : Type 0 where
   pub at : j ≡ 3 * b
   pub there : b < g .items
   pub holds : rowState t start b ≡ 0 → ⊥
-  pub noted : NotedTo g t n start b k notes frames same
+  pub noted : NotedTo g t n start b k notes frames differ
 
 module _ {g : Geometry} {t list₀ notes : List ℕ} {n start : ℕ} (r : RowReady g t n list₀ notes) (a : Placed g n 0 start) where
   pub row-asks : (start + 3 * g .items ≤ length t) × ((g .items ≤ length list₀) × (g .items ≤ 256))
@@ -235,11 +240,11 @@ module _ {g : Geometry} {t list notes₀ : List ℕ} {n start m : ℕ} (r : RowS
   state-at : (b : ℕ) → b < g .items → rowState t start b ≡ view g t .entry n b .state
   state-at = row-state g t n (r .ready .node) (r .placed)
 
-  pub row-starts : NotedTo g t n start 0 0 notes₀ 0 true
+  pub row-starts : NotedTo g t n start 0 0 notes₀ 0 0
   row-starts = record { within = omega arith; counted = sym (count-none (occupies (rowState t start))); passed = passed-none (view g t) (g .items) n (r .ready .noted) }
 
-  module _ {p k frames : ℕ} {notes : List ℕ} {same : Bool} (u : NotedTo g t n start p k notes frames same) where
-    pub row-turns : {j : ℕ} → k < m → j ≡ getD list k 0 → (b : ℕ) × Turning g t n start j k notes frames same b
+  module _ {p k frames differ : ℕ} {notes : List ℕ} (u : NotedTo g t n start p k notes frames differ) where
+    pub row-turns : {j : ℕ} → k < m → j ≡ getD list k 0 → (b : ℕ) × Turning g t n start j k notes frames differ b
     row-turns {j} l e =
         let x = next-occupied (rowState t start) (g .items) p (u .within) (omega (arith, u .counted, r .gathered .counted)) in
         let b = x .0 in
@@ -259,7 +264,7 @@ module _ {g : Geometry} {t list notes₀ : List ℕ} {n start m : ℕ} (r : RowS
           },
         )
 
-    pub row-ends : m ≤ k → RowNoted g (view g t) n notes (record { frames = frames; same = same })
+    pub row-ends : m ≤ k → RowNoted g (view g t) n notes (record { frames = frames; differ = differ })
     row-ends l =
         let blank = all-blank (rowState t start) p (g .items) (omega (arith, u .counted, r .gathered .counted)) in
         let z = passed-blanks (view g t) (g .items) n (g .items) p (u .within) (omega arith) (λ i h q. sym (state-at i q) ∙ blank i h q) (u .passed) in
@@ -271,7 +276,7 @@ module _ {g : Geometry} {t list notes₀ : List ℕ} {n start m : ℕ} (r : RowS
   pub row-listed : {k : ℕ} → k < m → k < length list
   row-listed l = omega (arith, r .gathered .counted, count-le (g .items) (occupies (rowState t start)), r .ready .room)
 
-  module _ {j k frames b : ℕ} {notes : List ℕ} {same : Bool} (u : Turning g t n start j k notes frames same b) where
+  module _ {j k frames differ b : ℕ} {notes : List ℕ} (u : Turning g t n start j k notes frames differ b) where
     pub turn-fits : start + j < 2 ^ 64
     turn-fits = omega (arith, r .placed .small, u .at, u .there, r .ready .items)
 
@@ -321,9 +326,10 @@ module _ {g : Geometry} {t list notes₀ : List ℕ} {n start m : ℕ} (r : RowS
           passed-frames (view g t) (g .items) n b (u .there) (u .noted .passed) (r .ready .lives) few small read-state read-value read-kept noted-here,
         )
 
-        pub turn-noted : NotedTo g t n start (b + 1) (k + 1) notes′ (frames + turn .frames) (same && turn .same)
+        pub turn-noted : NotedTo g t n start (b + 1) (k + 1) notes′ (frames + turn .frames) (bitOr differ (turn .differ))
         turn-noted = record {
           within = omega (arith, u .there);
           counted = count-occupied (rowState t start) b (u .holds) ∙ ap (λ i. i + 1) (u .noted .counted);
-          passed = passed-next (view g t) (g .items) n b (u .there) (u .noted .passed) (r .ready .lives) few small read-state read-value read-kept noted-here;
+          passed = rw (none-gathered differ (turn .differ))
+              (passed-next (view g t) (g .items) n b (u .there) (u .noted .passed) (r .ready .lives) few small read-state read-value read-kept noted-here);
         }

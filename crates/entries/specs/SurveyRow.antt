@@ -49,7 +49,7 @@ pub record EntryNoted (s x y j : ℕ) (notes notes′ : List ℕ) (r : Turn) : T
       (j + 2) (keptWith (getD notes j 0) (getD notes (j + 2) 0) y)
   pub frames : r .frames ≡ weightOf (topOf s) / 2 ^ 45
   pub same :
-      r .same
+      eqb (r .differ) 0
       ≡ (sameWith (weightOf (topOf s)) (firstWith (getD notes j 0) (getD notes (j + 1) 0) x) x
       && (sameKept (weightOf (topOf s)) (keptWith (getD notes j 0) (getD notes (j + 2) 0) y) y && lowForm s))
 
@@ -74,4 +74,4 @@ pub record RowReady (g : Geometry) (t : List ℕ) (n : ℕ) (list notes : List �
 pub record RowNoted (g : Geometry) (v : View) (n : ℕ) (notes : List ℕ) (r : Turn) : Type 0 where
   pub noted : NotedAll v (g .items) (n + 1) notes
   pub frames : r .frames ≡ sum (λ b. weightOf (topAt v b n) / 2 ^ 45) (g .items)
-  pub same : r .same ≡ every (λ b. lowForm (v .entry n b .state) && agreesAt v b n) (g .items)
+  pub same : eqb (r .differ) 0 ≡ every (λ b. lowForm (v .entry n b .state) && agreesAt v b n) (g .items)

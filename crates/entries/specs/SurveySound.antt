@@ -4,7 +4,7 @@ use mathlib.Core.Path.{_≡_, refl, sym, ap, ap₂, _∙_}
 use mathlib.Core.Bool.{Bool, true, false, not, _&&_, _||_}
 use mathlib.Core.List.{List}
 use native.Mathlib.Omega.{arith}
-use lib.Dec.{leb, ltb}
+use lib.Dec.{eqb, leb, ltb}
 use lib.ListN.{length, getD}
 use borrow.Author.Tests.{eq-eqb, ne-eqb, lt-leb, lt-ltb, le-ltb, ltb-true, ltb-false}
 use Rattle.counting.specs.Tests.{no-both, both, and-both, by-cases, bool-iff, given, implies}
@@ -231,7 +231,7 @@ module _ {g : Geometry} {t : List ℕ} {n : ℕ} {list notes : List ℕ} (s : Su
       pub row-frames : RowFrames g (view g t) n (r .frames)
       row-frames = record { items = s .table .items; room = s .table .frames; sums = p .frames }
 
-      pub row-live : {fits : Bool} → fits ≡ fitsTest g (view g t) n → RowSurveyed g (view g t) n notes′ (r .same && fits)
+      pub row-live : {fits : Bool} → fits ≡ fitsTest g (view g t) n → RowSurveyed g (view g t) n notes′ (eqb (r .differ) 0 && fits)
       unfolding rowTest
       row-live f = record { noted = p .noted; test = rw (lives, p .same, f) refl }
 

@@ -15,10 +15,11 @@ use counting::choice;
 use table::geometry::Geometry;
 use table::stores;
 
-// What entries tell: the frames that they use, and 1024 for each whose codes are out of form; whether no other bits are set and their values agree with those before.
+// What entries tell: the frames that they use, and 1024 for each whose codes are out of form; the other bits of their state words and those in which their
+// values differ from the ones before.
 struct Turn {
     frames: u64,
-    same: bool,
+    differ: u64,
 }
 
 // Whether all is sound, and the lowest item with an Owner or a Modified, or the number of items.
@@ -128,7 +129,7 @@ fn note_entry(table: &[u64], at: usize, j: usize, notes: &mut [u64]) -> Turn
     let kept_met = choice::either(weight / 32 % 1024 == 0, kept_first, kept_value);
     Turn {
         frames: weight / 0x2000_0000_0000,
-        same: (first == met) & ((kept_first == kept_met) & (state % 0x400_0000_0000_0000 == 0)),
+        differ: (first ^ met) | ((kept_first ^ kept_met) | (state % 0x400_0000_0000_0000)),
     }
 }
 
@@ -140,16 +141,16 @@ fn note_row(table: &[u64], g: Geometry, node: u8, list: &mut [u16], notes: &mut 
     let start = g.entry_at(node, 0);
     let count = occupied(table, start, g.items, list);
     let mut frames: u64 = 0;
-    let mut same = true;
+    let mut differ: u64 = 0;
     let mut k: usize = 0;
     while k < count {
         let j = list[k] as usize;
         let turn = note_entry(table, start + j, j, notes);
         frames += turn.frames;
-        same = same & turn.same;
+        differ = differ | turn.differ;
         k += 1;
     }
-    Turn { frames, same }
+    Turn { frames, differ }
 }
 
 // Whether the codes of a live node's entries are of good form and its frames suffice, by what its row told of frames.
@@ -177,7 +178,7 @@ fn row_sound(table: &[u64], g: Geometry, node: u8, list: &mut [u16], notes: &mut
     }
     let turn = note_row(table, g, node, list, notes);
     let fits = node_fits(table, g, node, turn.frames);
-    turn.same & fits
+    (turn.differ == 0) & fits
 }
 
 // Whether each row is as it should be.

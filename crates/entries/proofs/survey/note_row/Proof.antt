@@ -16,11 +16,11 @@ use Rattle.entries.proofs.survey.note_row.Tie as tie
 
 -- of any geometry, since the loop does not read it
 abbrev Inv-loop : tie.InvT-loop
-Inv-loop table node list notes₀ start count frames₀ same₀ k₀ notes frames same k =
-    (length notes ≡ length notes₀) × ((g : Geometry) → RowSet g table node list notes₀ start count → (p : ℕ) × NotedTo g table node start p k notes frames same)
+Inv-loop table node list notes₀ start count frames₀ differ₀ k₀ notes frames differ k =
+    (length notes ≡ length notes₀) × ((g : Geometry) → RowSet g table node list notes₀ start count → (p : ℕ) × NotedTo g table node start p k notes frames differ)
 
 abbrev μ-loop : tie.MeasureT-loop
-μ-loop table node list notes₀ start count frames₀ same₀ k₀ notes frames same k = count - k
+μ-loop table node list notes₀ start count frames₀ differ₀ k₀ notes frames differ k = count - k
 
 abbrev Before : Type 0
 Before =
