@@ -18,7 +18,6 @@ use Rattle.table.specs.Copies.{backBy, copyNumber, copyValue, back-number, back
 use Rattle.entries.specs.Frames.{frameOf, framesIn, frame-le}
 use Rattle.entries.specs.Row.{topOf, quarter}
 use Rattle.entries.specs.Survey.{codesForm}
-use Rattle.entries.specs.SurveyWeight.{among, Unlike, unlike-among}
 use Rattle.entries.specs.SurveySound.{form-parts}
 use Rattle.checkpoints.specs.Forward.{forward-value}
 use Rattle.recovery.specs.Sides.{copyOn}
@@ -127,19 +126,6 @@ module _ (forward : Bool) (w : ℕ) {r : ℕ} (h : r ≡ sideBits forward (topOf
       swapped true false = refl
       swapped false true = refl
       swapped false false = refl
-
--- ---- an arm of the code for each value of the six top bits
-
-abbrev pub tops : List ℕ
-tops =
-    63 ∷ 62 ∷ 61 ∷ 60 ∷ 59 ∷ 58 ∷ 57 ∷ 56 ∷ 55 ∷ 54 ∷ 53 ∷ 52 ∷ 51 ∷ 50 ∷ 49 ∷ 48 ∷
-    47 ∷ 46 ∷ 45 ∷ 44 ∷ 43 ∷ 42 ∷ 41 ∷ 40 ∷ 39 ∷ 38 ∷ 37 ∷ 36 ∷ 35 ∷ 34 ∷ 33 ∷ 32 ∷
-    31 ∷ 30 ∷ 29 ∷ 28 ∷ 27 ∷ 26 ∷ 25 ∷ 24 ∷ 23 ∷ 22 ∷ 21 ∷ 20 ∷ 19 ∷ 18 ∷ 17 ∷ 16 ∷
-    15 ∷ 14 ∷ 13 ∷ 12 ∷ 11 ∷ 10 ∷ 9 ∷ 8 ∷ 7 ∷ 6 ∷ 5 ∷ 4 ∷ 3 ∷ 2 ∷ 1 ∷ 0 ∷ []
-
-pub none-left : (top : ℕ) → top < 64 → Unlike tops top → ⊥
-unfolding every
-none-left top h u = no-both (every-at 64 (among tops) refl top h) (unlike-among tops top u)
 
 -- ---- what the code makes of an entry
 

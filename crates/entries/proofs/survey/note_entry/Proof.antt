@@ -10,6 +10,9 @@ use Rattle.entries.proofs.survey.note_entry.Tie as tie
 cast-weight : tie.Need-cast-weight
 cast-weight c = let k = c .before .before .before .before .before .before .before in omega (arith, k .shared-slice-known .given (k .before .args .at))
 
+weight-requires : tie.Need-weight-requires
+weight-requires c κs = let k = c .before .before .before .before .before .before .before in omega (arith, k .shared-slice-known .given (k .before .args .at))
+
 slice-write-notes-2 : tie.Need-slice-write-notes-2
 slice-write-notes-2 c =
     let w = c .before .before in
@@ -42,7 +45,7 @@ note-entry-spec =
     (λ c. search needs)
     (λ c. search needs)
     cast-weight
-    (λ c κs. search needs)
+    weight-requires
     (λ c κs. search needs)
     (λ c κs. search needs)
     (λ c. search needs)

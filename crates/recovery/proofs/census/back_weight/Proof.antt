@@ -2,8 +2,8 @@
 use mathlib.Core.Path.{sym, ap}
 use mathlib.Core.Bool.{false}
 use Rattle.entries.specs.Survey.{codesForm}
+use Rattle.entries.specs.SurveyWeight.{none-left}
 use Rattle.recovery.specs.Census.{sideBits}
-use Rattle.recovery.specs.CensusEntry.{none-left}
 use Rattle.recovery.proofs.census.back_weight.Statement.{statement}
 use Rattle.recovery.proofs.census.back_weight.Tie as tie
 
