@@ -6,7 +6,6 @@ use mathlib.Core.Bool.{cond}
 use mathlib.Core.List.{List, [], _∷_, map}
 use native.Mathlib.Omega.{arith}
 use native.Mathlib.Numerals.{add-one}
-use native.Mathlib.Decide.{decLt}
 use lib.Dec.{eqb, ltb}
 use borrow.Author.Tests.{eq-eqb, ne-eqb, lt-ltb, le-ltb}
 use Rattle.table.specs.declared.geometry.Geometry.{Geometry}
@@ -35,38 +34,25 @@ rowEntry n first second around b = map (entryStore n b) (freshEntry (placeAhead 
 
 -- ---- the ways of the code
 
-pub next-near : (around ahead : ℕ) → ahead < 2 → ahead + around ≡ nextAhead around ahead
-unfolding nextAhead
-next-near around ahead h = rw (lt-ltb ahead 2 h)
+module _ (around ahead : ℕ) where
+  pub next-near : ahead ≤ 1 → around ≤ 255 → (ahead + around ≡ nextAhead around ahead) × (ahead + around ≤ 256)
+  unfolding nextAhead
+  next-near h k = (rw (lt-ltb ahead 2 (omega arith)) refl, omega arith)
 
-pub next-far : (around ahead : ℕ) → 2 ≤ ahead → ahead - 2 ≡ nextAhead around ahead
-unfolding nextAhead
-next-far around ahead h = rw (le-ltb ahead 2 h)
-
--- as the code reckons it
-module _ (around ahead : ℕ) {turn : ℕ} (few : ahead ≤ 256) (near : around ≤ 255) (e : turn ≡ cond (ltb ahead 2) 0 (around + 2)) where
-  pub turn-fits : turn ≤ ahead + around
-  turn-fits = elim (decLt ahead 2) [
-    | yes l ↦ (let z : turn ≡ 0 = e ∙ rw (lt-ltb ahead 2 l) refl in omega arith)
-    | no l ↦ (let z : turn ≡ around + 2 = e ∙ rw (le-ltb ahead 2 (omega arith)) refl in omega arith)
-  ]
-
-  pub next-turn : (ahead + around - turn ≡ nextAhead around ahead) × (ahead + around - turn ≤ 256)
-  next-turn = elim (decLt ahead 2) [
-    | yes l ↦ (let z : turn ≡ 0 = e ∙ rw (lt-ltb ahead 2 l) refl in (omega (arith, next-near around ahead l), omega arith))
-    | no l ↦ (let z : turn ≡ around + 2 = e ∙ rw (le-ltb ahead 2 (omega arith)) refl in (omega (arith, next-far around ahead (omega arith)), omega arith))
-  ]
+  pub next-far : 1 < ahead → ahead ≤ 256 → (ahead - 2 ≡ nextAhead around ahead) × (ahead - 2 ≤ 256)
+  unfolding nextAhead
+  next-far h k = (rw (le-ltb ahead 2 (omega arith)) refl, omega arith)
 
 module _ (first second ahead : ℕ) where
   pub place-first : ahead ≡ 0 → first ≡ placeAhead first second ahead
   unfolding placeAhead
   place-first e = rw (eq-eqb ahead 0 e)
 
-  pub place-second : ahead ≡ 1 → second ≡ placeAhead first second ahead
+  pub place-second : ahead ≤ 1 → (ahead ≡ 0 → ⊥) → second ≡ placeAhead first second ahead
   unfolding placeAhead
-  place-second e = rw (ne-eqb ahead 0 (λ z. omega arith), eq-eqb ahead 1 e)
+  place-second h d = rw (ne-eqb ahead 0 d, eq-eqb ahead 1 (omega arith))
 
-  pub place-none : 2 ≤ ahead → invalid ≡ placeAhead first second ahead
+  pub place-none : 1 < ahead → invalid ≡ placeAhead first second ahead
   unfolding placeAhead
   place-none h = rw (ne-eqb ahead 0 (λ z. omega arith), ne-eqb ahead 1 (λ z. omega arith))
 

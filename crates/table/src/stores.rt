@@ -7,7 +7,6 @@ ghost use Rattle.table.specs.Stores.{Wrote, Stored, StoredIn, runs, size
 ghost use Rattle.table.specs.Rows.{nextAhead, placeAhead, freshEntry, rowEntry};
 ghost use Rattle.table.specs.View.{entryWord, view};
 use crate::geometry::Geometry;
-use counting::choice;
 
 // The word at a place, or 0 past the end.
 pub fn word(table: &[u64], at: usize) -> u64
@@ -133,23 +132,24 @@ pub fn store_kept(table: &mut [u64], left: u64, g: Geometry, node: u8, item: u16
 fn place_ahead(ahead: u64, first: u8, second: u8) -> u8
     ensures { λ r. ⌜ r ≡ placeAhead first second ahead ⌝ }
 {
+    if 1 < ahead {
+        return crate::words::INVALID;
+    }
     if ahead == 0 {
         return first;
     }
-    if ahead == 1 {
-        return second;
-    }
-    crate::words::INVALID
+    second
 }
 
-// How far the node is ahead at the item after: `around` more, and a whole turn less unless it is at a copy.
+// How far the node is ahead at the item after: two less, or past a copy `around` more.
 fn next_ahead(ahead: u64, around: u8) -> u64
     requires { ⌜ ahead ≤ 256 ⌝ }
     ensures { λ r. ⌜ (r ≡ nextAhead around ahead) × (r ≤ 256) ⌝ }
 {
-    let more = around as u64;
-    let turn = choice::either(ahead < 2, 0, more + 2);
-    ahead + more - turn
+    if 1 < ahead {
+        return ahead - 2;
+    }
+    ahead + around as u64
 }
 
 // Stores the three words of a fresh entry.
