@@ -25,7 +25,7 @@ forwardNumber c = cond (eqb c sharedCK1 || eqb c precommit1) 1 (cond (eqb c shar
 numberRule : ℕ → Bool
 numberRule c = eqb (checkpointOf (changeOf c RollForward)) (forwardNumber c)
 
-by-number : (number x y : ℕ) → copyNumber (backBy number 0 x y) ≡ number
+pub by-number : (number x y : ℕ) → copyNumber (backBy number 0 x y) ≡ number
 unfolding backBy
 by-number number x y = by-cases (eqb number 0) (λ z. rw (eqb-true number 0 z) refl) (λ z. rw z refl)
 

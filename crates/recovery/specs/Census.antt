@@ -78,8 +78,8 @@ entryFrom t at = record { state = getD t at 0; value = getD t (at + 1) 0; keptVa
 -- what an entry of item j tells beside the tallies s and the first values f, and what it makes of them
 pub record EntryNoted (forward : Bool) (step : ℕ) (e : Entry) (j : ℕ) (s s′ f f′ : List ℕ) (r : Note) : Type 0 where
   pub weighed : Weighed forward (e .state) (r .weight)
-  pub low : r .low ≡ eqb (e .state % 2 ^ 58) 0
-  pub agree : r .agree ≡ agreesMet (hasOn forward e) (getD s j 0) (getD f j 0) (copyValue (copyOn forward e))
+  pub low : r .low ≡ e .state % 2 ^ 58
+  pub agree : eqb (r .differ) 0 ≡ agreesMet (hasOn forward e) (getD s j 0) (getD f j 0) (copyValue (copyOn forward e))
   pub tallies : s′ ≡ set s j (getD s j 0 + numberWeight (copyNumber (copyOn forward e)) * step)
   pub firsts : f′ ≡ set f j (firstMet (hasOn forward e) (getD s j 0) (getD f j 0) (copyValue (copyOn forward e)))
 

@@ -6,27 +6,25 @@ use mathlib.Core.Bool.{Bool, true, false, cond, not, _&&_, _||_}
 use mathlib.Core.List.{List, [], _∷_}
 use native.Mathlib.Omega.{arith}
 use native.Mathlib.Decide.{ℕ-discrete}
+use lib.Bits.{bitXor}
 use lib.Dec.{eqb}
 use lib.ListN.{getD, set}
-use borrow.Author.Tests.{eqb-true, ne-eqb}
+use borrow.Author.Tests.{eqb-true, eq-eqb, ne-eqb}
 use Rattle.counting.specs.Tests.{by-cases, no-both}
+use Rattle.counting.specs.Differences.{none-differ}
 use Rattle.counting.specs.Counting.{every, every-at, one}
 use Rattle.table.specs.Geometry.{product}
 use Rattle.table.specs.Words.{currentOf, keptOf}
 use Rattle.table.specs.View.{Entry, current, kept}
 use Rattle.table.specs.Copies.{backBy, copyNumber, copyValue, back-number, back-value}
-use Rattle.entries.specs.Frames.{frameOf, framesIn, frame-le}
+use Rattle.entries.specs.Frames.{frameOf, framesIn, frame-le, frames-two}
 use Rattle.entries.specs.Row.{topOf, quarter}
 use Rattle.entries.specs.Survey.{codesForm}
 use Rattle.entries.specs.SurveySound.{form-parts}
-use Rattle.checkpoints.specs.Forward.{forward-value}
+use Rattle.checkpoints.specs.Forward.{by-number, forward-value}
 use Rattle.recovery.specs.Sides.{copyOn}
 use Rattle.recovery.specs.Notes.{hasOn, numberWeight, number-small}
 use Rattle.recovery.specs.Census.{numberOn, placeOn, sideBits, Weighed, entryFrom, EntryNoted}
-
-pub frames-small : (w : ℕ) → framesIn w ≤ 2
-unfolding framesIn
-frames-small w = omega (arith, frame-le (currentOf w), frame-le (keptOf w))
 
 pub one-small : (b : Bool) → one b ≤ 1
 one-small true = omega arith
@@ -34,13 +32,8 @@ one-small false = omega arith
 
 -- ---- an entry's codes on a side
 
--- forward, with nothing kept, the number is that of the current place
-on-number : (number x y : ℕ) → copyNumber (backBy number 0 x y) ≡ number
-unfolding backBy
-on-number number x y = by-cases (eqb number 0) (λ z. rw (eqb-true number 0 z) refl) (λ z. rw z refl)
-
 number-on : (forward : Bool) (e : Entry) → copyNumber (copyOn forward e) ≡ numberOn forward (current e) (kept e)
-number-on true e = on-number _ (e .value) (e .keptValue)
+number-on true e = by-number _ (e .value) (e .keptValue)
 number-on false e = back-number e
 
 -- back, the value is the kept one exactly where the number is
@@ -106,7 +99,7 @@ module _ (forward : Bool) (w : ℕ) {r : ℕ} (h : r ≡ sideBits forward (topOf
         (λ x. x + 2 ^ 10 * (numberBy % 2) + 2 ^ 20 * (numberBy / 2 % 2) + 2 ^ 30 * one (not (codesForm (topOf w)))
         + 2 ^ 40 * placeOn forward (topOf w / 4) (topOf w % 4) + 2 ^ 50 * one (not (eqb numberBy 0)))
         (sym frames-by);
-    frames-few = frames-small w;
+    frames-few = frames-two w;
     first-few = omega arith;
     second-few = omega arith;
     out-few = one-small (not (codesForm (topOf w)));
@@ -139,9 +132,9 @@ place-read t at place h = elim (ℕ-discrete place 0) [
   | no z ↦ (let e : place ≡ 1 = omega arith in let q : at + 1 + 1 ≡ at + 2 = omega arith in rw (e, q) refl)
 ]
 
-module _ (forward : Bool) (step : ℕ) (t : List ℕ) (at j : ℕ) (s f : List ℕ) {r x known first : ℕ} (h : r ≡ sideBits forward (topOf (getD t at 0)))
+module _ (forward : Bool) (step : ℕ) (t : List ℕ) (at j : ℕ) (s f : List ℕ) {r x known first taken : ℕ} (h : r ≡ sideBits forward (topOf (getD t at 0)))
     (read : x ≡ getD t (at + 1 + r / 2 ^ 40 % 2) 0) (met : known ≡ cond (eqb (getD s j 0) 0) x (getD f j 0))
-    (noted : first ≡ cond (eqb (r / 1024 % 2048) 0) (getD f j 0) known) where
+    (noted : first ≡ cond (eqb (r / 1024 % 2048) 0) (getD f j 0) known) (chosen : taken ≡ cond (eqb (r / 1024 % 2048) 0) x known) where
   abbrev e : Entry
   e = entryFrom t at
 
@@ -165,13 +158,17 @@ module _ (forward : Bool) (step : ℕ) (t : List ℕ) (at j : ℕ) (s f : List �
 
   pub entry-noted :
       EntryNoted forward step e j s (set s j (getD s j 0 + r / 1024 % 2048 * step)) f (set f j first)
-      (record { weight = r; low = eqb (getD t at 0 % 2 ^ 58) 0; agree = eqb (r / 1024 % 2048) 0 || (eqb (getD s j 0) 0 || eqb x (getD f j 0)) })
+      (record { weight = r; low = getD t at 0 % 2 ^ 58; differ = bitXor x taken })
   entry-noted = record {
     weighed = own;
     low = refl;
-    agree = by-cases (eqb (r / 1024 % 2048) 0)
-        (λ z. let q : hasOn forward e ≡ false = has-adds ∙ ap not z in rw (z, q) refl)
-        (λ z. let q : hasOn forward e ≡ true = has-adds ∙ ap not z in rw (z, q, ← x-copy q) refl);
+    agree = none-differ x taken ∙ by-cases (eqb (r / 1024 % 2048) 0)
+        (λ z. let q : hasOn forward e ≡ false = has-adds ∙ ap not z in
+        let w : x ≡ taken = sym (chosen ∙ rw z refl) in
+        eq-eqb x taken w ∙ rw q refl)
+        (λ z. let q : hasOn forward e ≡ true = has-adds ∙ ap not z in
+        let w : taken ≡ cond (eqb (getD s j 0) 0) x (getD f j 0) = chosen ∙ rw z met in
+        rw (q, ← x-copy q, w) (by-cases (eqb (getD s j 0) 0) (λ y. rw y (eq-eqb x x refl)) (λ y. rw y refl)));
     tallies = ap (λ k. set s j (getD s j 0 + k * step)) (adds ∙ sym (own .number e refl));
     firsts = ap (λ y. set f j y)
         (noted ∙ by-cases (eqb (r / 1024 % 2048) 0)

@@ -5,11 +5,13 @@ use mathlib.Core.Bool.{Bool, true, false, _&&_}
 use mathlib.Core.List.{List}
 use native.Mathlib.Omega.{arith}
 use native.Mathlib.Decide.{ℕ-discrete}
+use lib.Bits.{bitOr}
 use lib.Dec.{eqb, leb}
 use lib.ListN.{length, getD, set, length-set}
 use lib.Seq.{getD-set-same, getD-set-other}
 use borrow.Author.Tests.{lt-ltb, eq-eqb, ne-eqb}
 use Rattle.counting.specs.Tests.{by-cases, and-both, and-true, no-both}
+use Rattle.counting.specs.Differences.{none-gathered}
 use Rattle.counting.specs.Counting.{every, sum, sum-none, sum-next, one, count, count-none, count-next}
 use Rattle.table.specs.declared.geometry.Geometry.{Geometry}
 use Rattle.table.specs.Geometry.{entryAt, Placed, product}
@@ -40,8 +42,8 @@ pub record RowListed (g : Geometry) (n : ℕ) (t : List ℕ) (start : ℕ) (l : 
   pub placed : Placed g n 0 start
   pub notable : Notable g (view g t) n l count f s
 
--- the items before i are passed: their weights' sum by its digits
-pub record RowPassed (forward : Bool) (v : View) (n i : ℕ) (s s′ f f′ : List ℕ) (low : Bool) (sum : ℕ) (agree : Bool) : Type 0 where
+-- the items before i are passed: the other bits of their state words, their weights' sum by its digits, and the bits in which copies differ
+pub record RowPassed (forward : Bool) (v : View) (n i : ℕ) (s s′ f f′ : List ℕ) (low sum differ : ℕ) : Type 0 where
   pub frames : ℕ
   pub first : ℕ
   pub second : ℕ
@@ -54,8 +56,8 @@ pub record RowPassed (forward : Bool) (v : View) (n i : ℕ) (s s′ f f′ : Li
   pub out-few : out ≤ i
   pub place-few : place ≤ i
   pub held-few : held ≤ i
-  pub row : RowTo v n i (low && eqb out 0) frames
-  pub noted : NotedTo forward v n f s i f′ s′ agree
+  pub row : RowTo v n i (eqb low 0 && eqb out 0) frames
+  pub noted : NotedTo forward v n f s i f′ s′ (eqb differ 0)
   pub held-to : held ≡ count (λ b. hasOn forward (v .entry n b)) i
 
 pub row-lists :
@@ -63,7 +65,7 @@ pub row-lists :
     → Listed (stateIn (view g t) n) (g .items) l′ count → RowListed g n t start l′ count s f
 row-lists g n t r a o = record { there = r .there; placed = a; notable = record { listed = o; firsts-room = r .firsts-room; tallies-room = r .tallies-room } }
 
-pub passed-start : (forward : Bool) (v : View) (n : ℕ) (l s f : List ℕ) → RowPassed forward v n (reached l 0) s s f f true 0 true
+pub passed-start : (forward : Bool) (v : View) (n : ℕ) (l s f : List ℕ) → RowPassed forward v n (reached l 0) s s f f 0 0 0
 passed-start forward v n l s f = record {
   frames = 0;
   first = 0;
@@ -122,8 +124,8 @@ forms-turn low here out more = elim (ℕ-discrete out 0) [
     none true false c = refl
     none false b c = refl
 
-module _ (g : Geometry) (forward : Bool) (n : ℕ) (t : List ℕ) {start : ℕ} {l : List ℕ} {many : ℕ} {s s′ f f′ : List ℕ} {low : Bool} {sum : ℕ} {agree : Bool}
-    (o : RowListed g n t start l many s f) (k : ℕ) (p : RowPassed forward (view g t) n (reached l k) s s′ f f′ low sum agree) where
+module _ (g : Geometry) (forward : Bool) (n : ℕ) (t : List ℕ) {start : ℕ} {l : List ℕ} {many : ℕ} {s s′ f f′ : List ℕ} {low sum differ : ℕ}
+    (o : RowListed g n t start l many s f) (k : ℕ) (p : RowPassed forward (view g t) n (reached l k) s s′ f f′ low sum differ) where
   reached-few : g .items ≤ 256 → k ≤ many → reached l k ≤ 256
   reached-few sized q = elim (ℕ-discrete k many) [
     | yes z ↦ (let a = o .notable .listed .all in rw z (omega (arith, a)))
@@ -151,7 +153,7 @@ module _ (g : Geometry) (forward : Bool) (n : ℕ) (t : List ℕ) {start : ℕ} 
   -- after it
   pub passed-turn :
       k < many → {s₁ f₁ : List ℕ} {r : Note} → EntryNoted forward (stepOf n) (entryFrom t (start + 3 * getD l k 0)) (getD l k 0) s′ s₁ f′ f₁ r
-      → RowPassed forward (view g t) n (reached l (k + 1)) s s₁ f f₁ (low && r .low) (sum + r .weight) (agree && r .agree)
+      → RowPassed forward (view g t) n (reached l (k + 1)) s s₁ f f₁ (bitOr low (r .low)) (sum + r .weight) (bitOr differ (r .differ))
   passed-turn q {s₁} {f₁} {r} m =
       let u = o .notable .listed in
       let j = getD l k 0 in
@@ -173,9 +175,10 @@ module _ (g : Geometry) (forward : Bool) (n : ℕ) (t : List ℕ) {start : ℕ} 
         place-few = omega (arith, p .place-few, w .place-few);
         held-few = omega (arith, p .held-few, w .has-few);
         row = subst (λ (b : Bool). RowTo (view g t) n (reached l (k + 1)) b (p .frames + framesIn (entryFrom t (start + 3 * j) .state)))
-            (ap (λ (b : Bool). (low && eqb (p .out) 0) && (eqb (w .out) 0 && b)) (sym (m .low)) ∙ forms-turn low (r .low) (p .out) (w .out))
+            (ap (λ (b : ℕ). (eqb low 0 && eqb (p .out) 0) && (eqb (w .out) 0 && eqb b 0)) (sym (m .low)) ∙ forms-turn (eqb low 0) (eqb (r .low) 0) (p .out) (w .out)
+            ∙ ap (λ (b : Bool). b && eqb (p .out + w .out) 0) (sym (none-gathered low (r .low))))
             (row-turn (view g t) n u k (p .row) q (sym e) (sym (w .form)) refl (w .frames-few));
-        noted = rw (m .tallies, m .firsts)
+        noted = rw (m .tallies, m .firsts, none-gathered differ (r .differ))
             (noted-turn forward (view g t) n g (o .notable) k (p .noted) q (rw z refl) (rw z refl) (m .agree ∙ rw z refl));
         held-to = rw (reached-next l k)
             (omega (
@@ -190,7 +193,7 @@ module _ (g : Geometry) (forward : Bool) (n : ℕ) (t : List ℕ) {start : ℕ} 
   pub passed-all :
       g .items ≤ 256 → k ≤ many → many ≤ k → {l₀ : List ℕ} → length l ≡ length l₀
       → RowNoted g forward (view g t) n l₀ l s s′ f f′
-      (record { forms = low && eqb (sum / 2 ^ 30 % 1024) 0; frames = sum % 1024; held = sum / 2 ^ 50; agree = agree })
+      (record { forms = eqb low 0 && eqb (sum / 2 ^ 30 % 1024) 0; frames = sum % 1024; held = sum / 2 ^ 50; agree = eqb differ 0 })
   passed-all sized a b z =
       let c = reached-few sized a in
       let d = frames-few sized a in

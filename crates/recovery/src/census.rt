@@ -24,11 +24,11 @@ pub(crate) struct Turn {
     pub(crate) agree: bool,
 }
 
-// What an entry tells: its weight, whether no other bits are set, and whether a recovery copy of the side has the value of the first of its item.
+// What an entry tells: its weight, the other bits of its state word, and those in which a recovery copy of the side differs from the first of its item.
 pub(crate) struct Note {
     pub(crate) weight: u64,
-    pub(crate) low: bool,
-    pub(crate) agree: bool,
+    pub(crate) low: u64,
+    pub(crate) differ: u64,
 }
 
 // What all survivors tell: whether word forms and frames hold, whether each item has a recovery copy on the side and no two that differ, and whether no
@@ -222,10 +222,11 @@ fn note_entry(
     let known = choice::either(tally == 0, value, first);
     tallies[item] = tally + adds * step;
     firsts[item] = choice::either(adds == 0, first, known);
+    let met = choice::either(adds == 0, value, known);
     Note {
         weight,
-        low: state % 0x400_0000_0000_0000 == 0,
-        agree: (adds == 0) | ((tally == 0) | (value == first)),
+        low: state % 0x400_0000_0000_0000,
+        differ: value ^ met,
     }
 }
 
@@ -245,9 +246,9 @@ fn note_row(
     let start = g.entry_at(node, 0);
     let count = rows::occupied(table, g, node, list);
     let step = 1 + 0x10_0000 * (node as u64);
-    let mut low = true;
+    let mut low: u64 = 0;
     let mut sum: u64 = 0;
-    let mut agree = true;
+    let mut differ: u64 = 0;
     let mut k: usize = 0;
     while k < count {
         let item = list[k] as usize;
@@ -261,15 +262,15 @@ fn note_row(
             firsts,
         );
         sum += note.weight;
-        low = low & note.low;
-        agree = agree & note.agree;
+        low = low | note.low;
+        differ = differ | note.differ;
         k += 1;
     }
     Turn {
-        forms: low & (sum / 0x4000_0000 % 1024 == 0),
+        forms: (low == 0) & (sum / 0x4000_0000 % 1024 == 0),
         frames: (sum % 1024) as usize,
         held: sum / 0x4_0000_0000_0000,
-        agree,
+        agree: differ == 0,
     }
 }
 

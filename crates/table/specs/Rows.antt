@@ -34,25 +34,24 @@ rowEntry n first second around b = map (entryStore n b) (freshEntry (placeAhead 
 
 -- ---- the ways of the code
 
-module _ (around ahead : ℕ) where
-  pub next-near : ahead ≤ 1 → around ≤ 255 → (ahead + around ≡ nextAhead around ahead) × (ahead + around ≤ 256)
-  unfolding nextAhead
-  next-near h k = (rw (lt-ltb ahead 2 (omega arith)) refl, omega arith)
+pub next-near : (around ahead : ℕ) → ahead < 2 → ahead + around ≡ nextAhead around ahead
+unfolding nextAhead
+next-near around ahead h = rw (lt-ltb ahead 2 h)
 
-  pub next-far : 1 < ahead → ahead ≤ 256 → (ahead - 2 ≡ nextAhead around ahead) × (ahead - 2 ≤ 256)
-  unfolding nextAhead
-  next-far h k = (rw (le-ltb ahead 2 (omega arith)) refl, omega arith)
+pub next-far : (around ahead : ℕ) → 2 ≤ ahead → ahead - 2 ≡ nextAhead around ahead
+unfolding nextAhead
+next-far around ahead h = rw (le-ltb ahead 2 h)
 
 module _ (first second ahead : ℕ) where
   pub place-first : ahead ≡ 0 → first ≡ placeAhead first second ahead
   unfolding placeAhead
   place-first e = rw (eq-eqb ahead 0 e)
 
-  pub place-second : ahead ≤ 1 → (ahead ≡ 0 → ⊥) → second ≡ placeAhead first second ahead
+  pub place-second : ahead ≡ 1 → second ≡ placeAhead first second ahead
   unfolding placeAhead
-  place-second h d = rw (ne-eqb ahead 0 d, eq-eqb ahead 1 (omega arith))
+  place-second e = rw (ne-eqb ahead 0 (λ z. omega arith), eq-eqb ahead 1 e)
 
-  pub place-none : 1 < ahead → invalid ≡ placeAhead first second ahead
+  pub place-none : 2 ≤ ahead → invalid ≡ placeAhead first second ahead
   unfolding placeAhead
   place-none h = rw (ne-eqb ahead 0 (λ z. omega arith), ne-eqb ahead 1 (λ z. omega arith))
 

@@ -20,9 +20,9 @@ add-tallies c =
 
 returns : tie.Need-returns
 returns c =
-    let k = c .before .before .before in
+    let k = c .before .before .before .before in
     let a = k .before .before .before .before .before .before .before .args in
-    entry-noted _ _ (a .table .now) (a .at) _ _ _ (k .weight .ensures) refl (c .before .either .ensures) (c .either2 .ensures)
+    entry-noted _ _ (a .table .now) (a .at) _ _ _ (k .weight .ensures) refl (c .before .before .either .ensures) (c .before .either2 .ensures) (c .either3 .ensures)
 
 pub note-entry-spec : {M : Type 1} → statement M
 note-entry-spec =
@@ -47,6 +47,7 @@ note-entry-spec =
     (λ c κs. search needs)
     (λ c. search needs)
     (λ c. search needs)
+    (λ c κs. search needs)
     (λ c. search needs)
     (λ c. search needs)
     returns)

@@ -10,13 +10,13 @@ use Rattle.recovery.proofs.census.note_row.Statement.{statement}
 use Rattle.recovery.proofs.census.note_row.Tie as tie
 
 abbrev Inv-loop : tie.InvT-loop
-Inv-loop table node forward list tallies₀ firsts₀ start many step low₀ sum₀ agree₀ k₀ tallies firsts low sum agree k =
+Inv-loop table node forward list tallies₀ firsts₀ start many step low₀ sum₀ differ₀ k₀ tallies firsts low sum differ k =
     (k ≤ many)
     × ((g : Geometry) → RowListed g node table start list many tallies₀ firsts₀
-    → RowPassed forward (view g table) node (reached list k) tallies₀ tallies firsts₀ firsts low sum agree)
+    → RowPassed forward (view g table) node (reached list k) tallies₀ tallies firsts₀ firsts low sum differ)
 
 abbrev μ-loop : tie.MeasureT-loop
-μ-loop table node forward list tallies₀ firsts₀ start many step low₀ sum₀ agree₀ k₀ tallies firsts low sum agree k = many - k
+μ-loop table node forward list tallies₀ firsts₀ start many step low₀ sum₀ differ₀ k₀ tallies firsts low sum differ k = many - k
 
 occupied-requires : tie.Need-occupied-requires Inv-loop μ-loop
 occupied-requires c κs = let p = c .before .before .before .before .before .before .pre in (p .there, (p .long, p .list-room))

@@ -1,4 +1,5 @@
 -- `next_ahead` meets its contract: two less, or around. Assumes nothing.
+use native.Mathlib.Omega.{arith}
 use Rattle.table.specs.Rows.{next-near, next-far}
 use borrow.Author.Needs.{needs}
 use Rattle.table.proofs.stores.next_ahead.Statement.{statement}
@@ -9,6 +10,6 @@ next-ahead-spec =
     tie.close
     (tie.spec
     (λ c. search needs)
-    (λ c. next-far _ _ (c .if1 .taken) (c .before .pre))
+    (λ c. (next-far _ _ (c .if1 .taken), search needs))
     (λ c. search needs)
-    (λ c. next-near _ _ (c .if1 .left) (search needs)))
+    (λ c. (next-near _ _ (omega (arith, c .if1 .left)), search needs)))

@@ -1,4 +1,5 @@
 -- `place_ahead` meets its contract: a place for each way out. Assumes nothing.
+use native.Mathlib.Omega.{arith}
 use Rattle.table.specs.Rows.{place-first, place-second, place-none}
 use Rattle.table.proofs.stores.place_ahead.Statement.{statement}
 use Rattle.table.proofs.stores.place_ahead.Tie as tie
@@ -9,4 +10,4 @@ place-ahead-spec =
     (tie.spec
     (λ c. place-none _ _ _ (c .if1 .taken))
     (λ c. place-first _ _ _ (c .if2 .taken))
-    (λ c. place-second _ _ _ (c .before .if1 .left) (c .if2 .left)))
+    (λ c. place-second _ _ _ (omega (arith, c .before .if1 .left, c .if2 .left))))
