@@ -15,7 +15,7 @@ use Rattle.counting.specs.Counting.{one, Counted, count-none, count-next, count
 use Rattle.table.specs.declared.geometry.Geometry.{Geometry}
 use Rattle.table.specs.Geometry.{wordsOf}
 use Rattle.table.specs.Words.{invalid, sharedCK1, sharedCK2, currentOf}
-use Rattle.table.specs.Changes.{checkpointOf}
+use Rattle.table.specs.Changes.{checkpointOf, checkpoint-low}
 use Rattle.table.specs.Stores.{Store, Change, Stored, entryStore, runs, runs-ext, runs-add, stored-then, stored-as, stored-none, loop-starts, loop-turns}
 use Rattle.table.specs.View.{Entry, View, view, live, current, kept}
 use Rattle.table.specs.Pass.{pass, grid-once}
@@ -132,11 +132,8 @@ module _ (number lower others : ℕ) where
     unfolding numberAfter
     after-further e = rw (ne-eqb lower 0 h, e) refl
 
-number-small : (c : ℕ) → checkpointOf c < 3
-number-small c = by-cases (eqb c 4) (λ e. rw e (omega arith)) (λ e. by-cases (eqb c 5) (λ f. rw (e, f) (omega arith)) (λ f. rw (e, f) (omega arith)))
-
 pub number-fits : (c : ℕ) {number : ℕ} → number ≡ checkpointOf c → number < 3
-number-fits c e = omega (arith, number-small c)
+number-fits c e = omega (arith, checkpoint-low c)
 
 -- ---- the turn of one entry
 
@@ -181,7 +178,7 @@ unfolding numberChange numberBy survivorCode
 changes-by g w n b {c} h p q =
     by-cases (live w n)
     (λ e. let s : c ≡ current (w .entry n b) = h ∙ rw e refl in
-    rw (e, s) (numbered g w n b (w .entry n b) p q (checkpointOf (current (w .entry n b))) (number-small (current (w .entry n b)))))
+    rw (e, s) (numbered g w n b (w .entry n b) p q (checkpointOf (current (w .entry n b))) (checkpoint-low (current (w .entry n b)))))
     (λ e. let z : c ≡ 0 = h ∙ rw e refl in rw (e, z) refl)
 
 -- ---- one item: a turn finds its entry as it was at the item's start, whatever the limit

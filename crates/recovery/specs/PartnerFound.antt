@@ -13,7 +13,7 @@ use Rattle.counting.specs.Counting.{one, sum, sum-ext, count, Only, only-counts
 use Rattle.counting.specs.First.{first, first-found, first-none, first-least, first-passes}
 use Rattle.table.specs.declared.geometry.Geometry.{Geometry}
 use Rattle.table.specs.Words.{invalid, sharedCK1, sharedCK2}
-use Rattle.table.specs.Changes.{checkpointOf}
+use Rattle.table.specs.Changes.{checkpoint-code}
 use Rattle.table.specs.View.{View, live, current}
 use Rattle.entries.specs.Frames.{setOf, setFrames, framesIn, framesAt, used}
 use Rattle.entries.specs.Tally.{has, copy}
@@ -41,11 +41,6 @@ only-first n p m o =
     (first-none p m (λ k l. by-cases (p k) (λ e. absurd (let q = o .alone k (omega (arith, o .within)) e in omega arith)) (λ e. e)))
     (o .holds) (o .within)
 
--- the codes with a number
-pub code-either : (c : ℕ) → checkpointOf c ≢ 0 → (c ≡ sharedCK1) ⊎ (c ≡ sharedCK2)
-code-either c d =
-    by-cases (eqb c 4) (λ e. inl (eqb-true c 4 e)) (λ e. by-cases (eqb c 5) (λ f. inr (eqb-true c 5 f)) (λ f. absurd (d (rw (e, f) refl))))
-
 module _ (g : Geometry) (saved : ℕ → ℕ) (w u : View) (plain : Plain g saved w u) where
   -- how many copies node n has
   abbrev holds : ℕ → ℕ
@@ -66,7 +61,7 @@ module _ (g : Geometry) (saved : ℕ → ℕ) (w u : View) (plain : Plain g save
   -- a copy is a Shared-CK
   pub coded : (b n : ℕ) → b < g .items → n < g .nodes → copy u b n ≡ true → (current (u .entry n b) ≡ sharedCK1) ⊎ (current (u .entry n b) ≡ sharedCK2)
   coded b n hb hn t =
-      code-either (current (u .entry n b)) (plain .entries n b (test-live g u n hn (copy-live u b n t)) hb .code (copy-code u b n t))
+      checkpoint-code (current (u .entry n b)) (plain .entries n b (test-live g u n hn (copy-live u b n t)) hb .code (copy-code u b n t))
 
   pub pair-copies : (b : ℕ) → b < g .items → Paired g u b → count (copy u b) (g .nodes) ≡ 2
   pair-copies b hb p =
