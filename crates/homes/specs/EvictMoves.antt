@@ -19,11 +19,11 @@ use Rattle.table.specs.View.{Entry, View, current, kept}
 use Rattle.table.specs.Via.{Via, done, via-then, via-weaken, via-loosen}
 use Rattle.table.specs.Pass.{Steps, Changed}
 use Rattle.table.specs.Copies.{Copy, noCopy, backCopy, backBy, value-free}
-use Rattle.entries.specs.Frames.{setOf, setFrames, used, set-there}
+use Rattle.entries.specs.Frames.{setOf, setFrames, used, frameFree, set-there}
 use Rattle.entries.specs.SoundFacts.{SoundTable}
 use Rattle.homes.specs.declared.places.Place.{Place}
 use Rattle.homes.specs.declared.places.Place.the-variants.{Current, Kept}
-use Rattle.homes.specs.Home.{sharedAt, sharedItem, hasFrame, hasRoom, placeFits, droppedItem, currentLeft, arrivalOf, dropStores, arrivalChanges, homeStoresBy, homeStores}
+use Rattle.homes.specs.Home.{sharedAt, sharedItem, hasRoom, placeFits, droppedItem, currentLeft, arrivalOf, dropStores, arrivalChanges, homeStoresBy, homeStores}
 use Rattle.homes.specs.Places.{codeIn}
 use Rattle.homes.specs.Evict.{dropped, sourceStores, movedTo}
 use Rattle.homes.specs.Kept.{Live, live-test}
@@ -60,8 +60,8 @@ module _ (g : Geometry) (v : View) (phase number n h b : ℕ) (good : SoundTable
   unfoldable dropsOf : ℕ → List Store
   dropsOf d = cond (ltb d (g .items)) (entryStore h d (stateTo invalid (kept (v .entry h d))) ∷ []) []
 
-  room-has : hasFrame g v h b ≡ true → (d : ℕ) → d ≡ g .items → Via g (Ready g v n h b source home other item) (Room d) v (dropsOf d)
-  unfolding hasFrame currentLeft dropsOf
+  room-has : frameFree g v h b ≡ true → (d : ℕ) → d ≡ g .items → Via g (Ready g v n h b source home other item) (Room d) v (dropsOf d)
+  unfolding currentLeft dropsOf
   room-has f d e =
       let l : used g v h (setOf g b) < setFrames g = ltb-true (used g v h (setOf g b)) (setFrames g) f in
       rw (le-ltb d (g .items) (omega arith))
@@ -88,9 +88,9 @@ module _ (g : Geometry) (v : View) (phase number n h b : ℕ) (good : SoundTable
   room-via : hasRoom g v h b ≡ true → Via g (Ready g v n h b source home other item) (Room (droppedItem g v h b)) v (dropsOf (droppedItem g v h b))
   unfolding hasRoom droppedItem sharedItem sharedAt
   room-via r =
-      by-cases (hasFrame g v h b)
+      by-cases (frameFree g v h b)
       (λ f. room-has f (droppedItem g v h b) (rw f refl))
-      (λ f. let l : sharedItem g v h < g .items = ltb-true (sharedItem g v h) (g .items) (other-holds (hasFrame g v h b) r f) in
+      (λ f. let l : sharedItem g v h < g .items = ltb-true (sharedItem g v h) (g .items) (other-holds (frameFree g v h b) r f) in
       let z : current (v .entry h (sharedItem g v h)) ≡ shared = eqb-true (current (v .entry h (sharedItem g v h))) shared (first-passes (sharedAt v h) (g .items) l) in
       rw f (room-drops (sharedItem g v h) l z))
 

@@ -20,7 +20,6 @@ use Rattle.entries.specs.Tally.{has, copy}
 use Rattle.entries.specs.Kinds.{copy-code, copy-live, no-copy}
 use Rattle.entries.specs.Codes.{two-codes, all-codes}
 use Rattle.homes.specs.Kept.{Live, live-test, test-live}
-use Rattle.homes.specs.Home.{hasFrame}
 use Rattle.homes.specs.HomeCode.{after-below}
 use Rattle.homes.specs.HomeLaws.{after-other, after-reaches}
 use Rattle.counting.specs.Crowded.{sum-at, sum-fewer, crowded}
@@ -108,7 +107,7 @@ module _ (g : Geometry) (saved : ℕ → ℕ) (w u : View) (plain : Plain g save
     empty-elsewhere n l d t = no-copy u b n t (by-cases (copy u b n) (λ e. absurd (d (o .alone n l e))) (λ e. e))
 
     full : (n : ℕ) → n < g .nodes → n ≢ a → live u n ≡ true → takes g u b n ≡ false → g .frames ≤ holds n
-    unfolding takes hasFrame
+    unfolding takes
     full n l d t e =
         let f = and-no-right (live u n) t e in
         let f′ = and-no-right (eqb (current (u .entry n b)) invalid) (eq-eqb (current (u .entry n b)) invalid (empty-elsewhere n l d t)) f in
@@ -143,7 +142,7 @@ module _ (g : Geometry) (saved : ℕ → ℕ) (w u : View) (plain : Plain g save
       pub free : used g u m (setOf g b) + 1 ≤ setFrames g
 
     pub partner-found : Found (partnerOf g u b a)
-    unfolding partnerOf takesAfter takes hasFrame
+    unfolding partnerOf takesAfter takes
     partner-found =
         let l = found-few in
         let t = both (live u (partnerOf g u b a)) (first-passes (takesAfter g u b a) (g .nodes - 1) l) in
