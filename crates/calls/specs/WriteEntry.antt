@@ -10,7 +10,7 @@ use Rattle.table.specs.declared.changes.Event.the-variants.{OtherWrites}
 use Rattle.counting.specs.Counting.{every, every-at}
 use Rattle.table.specs.Words.{stateWord, currentOf, keptOf, stateForm, invalid, modified, precommit1, current-state, kept-state, state-parts}
 use Rattle.table.specs.Forms.{form-facts, low-form}
-use Rattle.table.specs.Changes.{changeOf, checkpointOf, keep}
+use Rattle.table.specs.Changes.{changeOf, checkpointOf, checkpoint-none, checkpoint-low, keep}
 use Rattle.table.specs.Stores.{valueTo, keptTo}
 use Rattle.table.specs.View.{Entry, current, kept, changed}
 use Rattle.table.specs.Pass.{Steps, last, next}
@@ -31,17 +31,6 @@ abbrev pub extra : Entry → ℕ
 extra e = cond (needsFrame (current e)) 1 0
 
 -- ---- numbers
-
-number-low : (c : ℕ) → checkpointOf c < 3
-number-low c = go (eqb c 4) (eqb c 5)
-  where
-    go : (p q : Bool) → cond p 1 (cond q 2 0) < 3
-    go true q = omega arith
-    go false true = omega arith
-    go false false = omega arith
-
-number-none : (c : ℕ) → c < 4 → checkpointOf c ≡ 0
-number-none c h = rw (ne-eqb c 4 (λ e. omega arith), ne-eqb c 5 (λ e. omega arith))
 
 -- the column "other writes", of every state but Precommit
 otherRule : ℕ → Bool
@@ -87,7 +76,7 @@ module _ (e : Entry) (form : stateForm (e .state) ≡ true) where
 
   kept-low : (none : Bool) → cond none (kept e) (number e) < 3
   kept-low true = form-facts (e .state) form .keptCode
-  kept-low false = number-low (current e)
+  kept-low false = checkpoint-low (current e)
 
   -- the kept value of a Shared-CK is free
   kept-safe : eqb (number e) 0 ≡ false → (d : ℕ) → Safe e d (changed (keptTo (e .value)) e)
@@ -107,7 +96,7 @@ module _ (e : Entry) (form : stateForm (e .state) ≡ true) where
       let cs : currentOf (stateWord c k) ≡ c = current-state c k (omega arith) (omega arith) in
       let ks : keptOf (stateWord c k) ≡ k = kept-state c k (omega arith) (omega arith) in
       record {
-        back = ap₂ (λ i j. backBy i j x (cond none (e .keptValue) (e .value))) (ap checkpointOf cs ∙ number-none c hc) ks
+        back = ap₂ (λ i j. backBy i j x (cond none (e .keptValue) (e .value))) (ap checkpointOf cs ∙ checkpoint-none c hc) ks
             ∙ rw h at (back-moved (number e) (kept e) (e .value) x (e .keptValue));
         form = low-form c k hc lk;
         frames = rw (frames-state c k (omega arith) (omega arith)) l;

@@ -4,7 +4,7 @@ use Prim.Native.Nat.{ℕ, _≤_, _<_}
 use mathlib.Core.Path.{_≡_, refl, sym, ap, _∙_}
 use mathlib.Core.Logic.{_≢_}
 use mathlib.Core.Bool.{Bool, true, false, cond, not}
-use mathlib.Core.List.{List, [], _∷_, _++_, map}
+use mathlib.Core.List.{List, [], _∷_}
 use native.Mathlib.Omega.{arith}
 use native.Mathlib.Decide.{ℕ-discrete}
 use lib.Dec.{eqb}
@@ -12,8 +12,8 @@ use lib.ListN.{length}
 use borrow.Author.Tests.{eqb-true}
 use Rattle.counting.specs.Tests.{either, no-both}
 use Rattle.table.specs.declared.geometry.Geometry.{Geometry}
-use Rattle.table.specs.Words.{keptOf, stateForm, invalid, shared, owner, modified, precommit1, precommit2}
-use Rattle.table.specs.Stores.{Store, entryStore, stateTo, after, All, none, all-then}
+use Rattle.table.specs.Words.{stateForm, invalid, shared, owner, modified, precommit1, precommit2}
+use Rattle.table.specs.Stores.{Store, stateTo, after, All, all-then}
 use Rattle.table.specs.View.{View, view, live, current, kept}
 use Rattle.table.specs.Answers.{carry}
 use Rattle.entries.specs.declared.check.Checked.the-variants.{Passed}
@@ -23,16 +23,15 @@ use Rattle.entries.specs.Kinds.{cleanCode, ownerCode, createdCode, Owned, modif
 use Rattle.entries.specs.Sharers.{drop-shared}
 use Rattle.entries.specs.SoundFacts.{SoundTable, phaseIn, numberIn}
 use Rattle.entries.specs.CheckFacts.{Accepted, facts-accepted}
-use Rattle.homes.specs.declared.places.Place.{Place}
 use Rattle.homes.specs.declared.places.Place.the-variants.{Current}
-use Rattle.homes.specs.declared.home.Arrival.{Arrival}
 use Rattle.entries.specs.Dirty.{owns, ownerOf, dirtyItem}
-use Rattle.homes.specs.Home.{homeOf, arrivalOf, arrivalChanges, dropStores, takeoverStores, homeStoresBy, homeStores}
+use Rattle.homes.specs.Home.{homeOf, arrivalOf, homeStores}
 use Rattle.checkpoints.specs.Create.{hasSharer, sharerOf, turn, partnerStores, createItem, createOf}
 use Rattle.homes.specs.Kept.{Kept, live-test}
 use Rattle.homes.specs.Placed.{placed-current, placed-kept}
 use Rattle.checkpoints.specs.Created.{Pairing, Paired}
 use Rattle.checkpoints.specs.CreateVia.{owns-not}
+use Rattle.homes.specs.EvictSound.{home-off}
 use Rattle.homes.specs.SoundKept.{Off, entry-off, shape-after, kind-same, saved-kept, sound-kept}
 use Rattle.checkpoints.specs.MarksSound.{opened}
 use Rattle.checkpoints.specs.CreateTheorem.{acted, creates, stores-are, facts, create-found, create-keeps, create-created}
@@ -187,22 +186,6 @@ module _ (g : Geometry) (b o p d : ℕ) (v w : View) (phase number : ℕ) (good 
   paired-sound one kp = sound-kept g v w phase number good kp (paired-kinds one)
 
 -- ---- its stores
-
-drop-off : (g : Geometry) (h : ℕ) (a : Arrival) → All (Off g) (dropStores h a)
-unfolding dropStores
-drop-off g h a = go (a .drops)
-  where
-    go : (q : Bool) → All (Off g) (cond q (entryStore h (a .dropped) (stateTo invalid (keptOf (a .beside))) ∷ []) [])
-    go true = entry-off g h (a .dropped) (stateTo invalid (keptOf (a .beside)) ∷ [])
-    go false = none
-
-home-off : (g : Geometry) (place : Place) (h b code value : ℕ) (a : Arrival) → All (Off g) (homeStoresBy place h b code value a)
-unfolding homeStoresBy
-home-off g place h b code value a = go (a .takeover)
-  where
-    go : (q : Bool) → All (Off g) (cond q (takeoverStores h b code a) (dropStores h a ++ map (entryStore h b) (arrivalChanges place code value a)))
-    go true = entry-off g h b (stateTo code (a .kept) ∷ [])
-    go false = all-then (drop-off g h a) (entry-off g h b (arrivalChanges place code value a))
 
 pub create-off : (g : Geometry) (v : View) (b o : ℕ) → All (Off g) (createItem g v b o)
 unfolding createItem partnerStores homeStores

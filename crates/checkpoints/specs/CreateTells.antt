@@ -16,11 +16,12 @@ use Rattle.table.specs.Stores.{Store}
 use Rattle.table.specs.View.{View, live, current}
 use Rattle.table.specs.Via.{Via}
 use Rattle.table.specs.Answers.{refuse, nothingLeft, carry}
+use Rattle.entries.specs.Frames.{frameFree}
 use Rattle.entries.specs.Kinds.{Kind, clean, dirty, created, copy-at}
 use Rattle.entries.specs.SoundFacts.{SoundTable}
 use Rattle.homes.specs.declared.places.Place.the-variants.{Current}
 use Rattle.entries.specs.Dirty.{owns, ownsAt, ownerOf, dirtyItem}
-use Rattle.homes.specs.Home.{sharedItem, sharedAt, hasFrame, hasRoom, placeFits, fits, homeOf, droppedItem}
+use Rattle.homes.specs.Home.{sharedItem, sharedAt, hasRoom, placeFits, fits, homeOf, droppedItem}
 use Rattle.homes.specs.HomeLaws.{home-fits}
 use Rattle.checkpoints.specs.Create.{sharesAt, sharerOf, hasSharer, partnerStores, createItem, createStores, noPartner, createPlan}
 use Rattle.checkpoints.specs.CreateCode.{next-owned}
@@ -116,7 +117,7 @@ module _ (g : Geometry) (v : View) (b : ℕ) where
 module _ (g : Geometry) (v : View) (h b : ℕ) where
   dropped-shared : droppedItem g v h b < g .items → current (v .entry h (droppedItem g v h b)) ≡ shared
   unfolding droppedItem sharedItem sharedAt
-  dropped-shared = go (hasFrame g v h b)
+  dropped-shared = go (frameFree g v h b)
     where
       go : (q : Bool) → cond q (g .items) (sharedItem g v h) < g .items → current (v .entry h (cond q (g .items) (sharedItem g v h))) ≡ shared
       go true l = absurd (omega arith)

@@ -15,11 +15,11 @@ use Rattle.table.specs.Stores.{Store, entryStore, stateTo, valueTo}
 use Rattle.table.specs.View.{View, current, kept}
 use Rattle.table.specs.Via.{Via, via-then, via-weaken}
 use Rattle.table.specs.Pass.{Changed}
-use Rattle.entries.specs.Frames.{setOf, setFrames, used, set-there}
+use Rattle.entries.specs.Frames.{setOf, setFrames, used, frameFree, set-there}
 use Rattle.entries.specs.SoundFacts.{SoundTable}
 use Rattle.homes.specs.declared.places.Place.the-variants.{Current}
 use Rattle.entries.specs.Dirty.{owns}
-use Rattle.homes.specs.Home.{sharedAt, sharedItem, hasFrame, hasRoom, droppedItem, arrivalOf, dropStores, arrivalChanges, homeStoresBy, homeStores}
+use Rattle.homes.specs.Home.{sharedAt, sharedItem, hasRoom, droppedItem, arrivalOf, dropStores, arrivalChanges, homeStoresBy, homeStores}
 use Rattle.checkpoints.specs.Create.{turn}
 use Rattle.homes.specs.Kept.{Live, Kept, live-test}
 use Rattle.homes.specs.FramesKept.{used-no-more}
@@ -35,7 +35,7 @@ arrival v h b x = entryStore h b (valueTo x) ∷ entryStore h b (stateTo precomm
 
 module _ (g : Geometry) (v : View) (h b : ℕ) where
   -- it has a frame
-  module _ (frame : hasFrame g v h b ≡ true) where
+  module _ (frame : frameFree g v h b ≡ true) where
     pub drops-none : droppedItem g v h b ≡ g .items
     unfolding droppedItem
     drops-none = rw frame refl
@@ -45,7 +45,7 @@ module _ (g : Geometry) (v : View) (h b : ℕ) where
     home-free x e = rw (ne-eqb (current (v .entry h b)) shared e, drops-none, le-ltb (g .items) (g .items) (omega arith)) refl
 
   -- it drops a Shared copy
-  module _ (frame : hasFrame g v h b ≡ false) (some : sharedItem g v h < g .items) where
+  module _ (frame : frameFree g v h b ≡ false) (some : sharedItem g v h < g .items) where
     pub drops-some : droppedItem g v h b ≡ sharedItem g v h
     unfolding droppedItem
     drops-some = rw frame refl
@@ -124,9 +124,8 @@ module _ (g : Geometry) (v : View) (phase number b o : ℕ) (good : SoundTable g
 
     -- it has a frame
     free-via :
-        hasFrame g v h b ≡ true
+        frameFree g v h b ≡ true
         → Via g (Kept g v) (Paired g b o h (g .items) v) v (turn v o b precommit1 ∷ arrival v h b ownValue)
-    unfolding hasFrame
     free-via frame = via-then owner-via (λ u ku cu.
         via-weaken (arrival-via u ku (turned-same u cu b) (free u cu))
         (λ w kw cw. record {
@@ -180,7 +179,7 @@ module _ (g : Geometry) (v : View) (phase number b o : ℕ) (good : SoundTable g
         → Via g (Kept g v) (Paired g b o h (droppedItem g v h b) v) v (turn v o b precommit1 ∷ homeStores g v Current h b precommit2 ownValue)
     unfolding hasRoom
     taken-via room =
-        by-cases (hasFrame g v h b)
+        by-cases (frameFree g v h b)
         (λ q. rw (drops-none g v h b q, home-free g v h b q ownValue not-shared) (free-via q))
-        (λ q. let some = ltb-true (sharedItem g v h) (g .items) (other-holds (hasFrame g v h b) room q) in
+        (λ q. let some = ltb-true (sharedItem g v h) (g .items) (other-holds (frameFree g v h b) room q) in
         rw (drops-some g v h b q some, home-drops g v h b q some ownValue not-shared) (dropped-via (sharedItem g v h) (shared-there g v h b some) some))

@@ -73,7 +73,7 @@ none-of i j c e = bool-iff (eqb (i + j * 2 ^ 5) 0) (eqb c 0)
     (λ h. eq-eqb c 0 (omega (arith, eqb-true (i + j * 2 ^ 5) 0 h)))
     (λ h. eq-eqb (i + j * 2 ^ 5) 0 (omega (arith, eqb-true c 0 h)))
 
-frames-two : (top : ℕ) → framesBy top ≤ 2
+pub frames-two : (top : ℕ) → framesBy top ≤ 2
 unfolding framesBy
 frames-two top = by-cases (codesForm top) (λ e. rw e (omega (arith, frame-le (top / 4), frame-le (top % 4)))) (λ e. rw e (omega arith))
 

@@ -16,12 +16,12 @@ use Rattle.table.specs.Words.{stateForm, currentOf}
 use Rattle.table.specs.View.{View, view, live}
 use Rattle.counting.specs.Values.{valuesOf}
 use Rattle.entries.specs.declared.survey.Turn.{Turn}
-use Rattle.entries.specs.Frames.{setsOf, setFrames, set-there, frame-le, framesIn, frames-here, framesAt, used, framesFit}
+use Rattle.entries.specs.Frames.{setsOf, setFrames, set-there, framesIn, frames-here, framesAt, used, framesFit}
 use Rattle.entries.specs.Sound.{statesForm, nodeSound, nodesSound, itemSound, itemsSound}
 use Rattle.entries.specs.Survey.{topAt, codesForm, holds, holdsAt, keepsAt, framesBy, weightOf, weightAt, heldValues, keptValues, Noted, agreesAt, lowForm, kindTest}
 use Rattle.entries.specs.SurveyRow.{NotedAll, RowReady, RowNoted}
 use Rattle.entries.specs.Row.{topOf, one-set, mark-there}
-use Rattle.entries.specs.SurveyFields.{weight-frames}
+use Rattle.entries.specs.SurveyFields.{weight-frames, frames-two}
 use Rattle.entries.specs.SurveyStep.{noted-dead, agrees-dead, agrees-all}
 use Rattle.entries.specs.SurveyKinds.{kind-tells}
 
@@ -87,10 +87,6 @@ far-frames top h = rw (far-form top h) refl
 
 frames-any : (top : ℕ) → weightOf top / 2 ^ 45 ≡ framesBy top + one (not (codesForm top)) * 1024
 frames-any top = by-cases (ltb top 64) (λ e. weight-frames top (ltb-true top 64 e)) (λ e. far-frames top (ltb-false top 64 e))
-
-frames-two : (top : ℕ) → framesBy top ≤ 2
-unfolding framesBy
-frames-two top = by-cases (codesForm top) (λ e. rw e (omega (arith, frame-le (top / 4), frame-le (top % 4)))) (λ e. rw e (omega arith))
 
 module _ (g : Geometry) (v : View) (n frames : ℕ) (p : RowFrames g v n frames) where
   abbrev term : ℕ → ℕ

@@ -7,7 +7,6 @@ use mathlib.Core.List.{[], _∷_}
 use native.Mathlib.Omega.{arith}
 use native.Mathlib.Decide.{ℕ-discrete}
 use lib.Dec.{eqb}
-use borrow.Author.Tests.{ne-eqb}
 use Rattle.table.specs.Words.{stateWord, stateForm, invalid, shared, current-state, kept-state}
 use Rattle.table.specs.Forms.{form-facts, low-form, alone-form}
 use Rattle.table.specs.Changes.{checkpointOf}
@@ -28,9 +27,6 @@ pub record Arrives (e₀ : Entry) (d : ℕ) (c : Copy) (e : Entry) : Type 0 wher
 -- Shared-CK stands beside no kept copy
 beside-form : (c k : ℕ) → c < 8 → k < 3 → (k ≢ 0 → c < 4) → stateForm (stateWord c k) ≡ true
 beside-form c k hc hk h = elim (ℕ-discrete k 0) [ yes z ↦ rw z (alone-form c hc) | no z ↦ low-form c k (h z) hk ]
-
-pub low-number : (c : ℕ) → c < 4 → checkpointOf c ≡ 0
-low-number c h = rw (ne-eqb c 4 (λ e. omega arith), ne-eqb c 5 (λ e. omega arith))
 
 pub high-number : (c : ℕ) → 4 ≤ c → c < 6 → eqb (checkpointOf c) 0 ≡ false
 high-number c h l = elim (ℕ-discrete c 4) [ yes e ↦ rw e refl | no e ↦ (let q : c ≡ 5 = omega arith in rw q refl) ]

@@ -21,12 +21,13 @@ use Rattle.table.specs.ViewAfter.{view-after}
 use Rattle.table.specs.Puts.{put₂-same, put₂-other}
 use Rattle.table.specs.Via.{Via, via-within}
 use Rattle.table.specs.Answers.{carry}
+use Rattle.entries.specs.Frames.{frameFree}
 use Rattle.entries.specs.SoundFacts.{SoundTable, phaseIn, numberIn}
 use Rattle.entries.specs.CheckFacts.{Accepted, accepted-facts}
 use Rattle.homes.specs.declared.places.Place.{Place}
 use Rattle.homes.specs.declared.places.Place.the-variants.{Current, Kept}
 use Rattle.homes.specs.Places.{codeIn}
-use Rattle.homes.specs.Home.{sharedAt, sharedItem, hasFrame, hasRoom, placeFits, fits, homeOf, droppedItem, currentLeft, arrivalOf, dropStores, arrivalChanges, homeStoresBy, homeStores}
+use Rattle.homes.specs.Home.{sharedAt, sharedItem, hasRoom, placeFits, fits, homeOf, droppedItem, currentLeft, arrivalOf, dropStores, arrivalChanges, homeStoresBy, homeStores}
 use Rattle.homes.specs.Evict.{dropped, stateLeft, sourceStores, movedTo, evictAdmission, evictStores, evictOf}
 use Rattle.homes.specs.EvictCode.{evict-drops, evict-moves}
 use Rattle.homes.specs.EvictTells.{Leaving, evict-leaving}
@@ -113,7 +114,7 @@ module _ (g : Geometry) (v : View) (place : Place) (n h b : ℕ) (other : h ≢ 
 module _ (g : Geometry) (v : View) (h b : ℕ) where
   pub drops-shared : droppedItem g v h b < g .items → current (v .entry h (droppedItem g v h b)) ≡ shared
   unfolding droppedItem sharedItem sharedAt
-  drops-shared = go (hasFrame g v h b)
+  drops-shared = go (frameFree g v h b)
     where
       go : (q : Bool) → cond q (g .items) (sharedItem g v h) < g .items → current (v .entry h (cond q (g .items) (sharedItem g v h))) ≡ shared
       go true l = absurd (omega arith)

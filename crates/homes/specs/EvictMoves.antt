@@ -13,23 +13,23 @@ use Rattle.counting.specs.First.{first-passes}
 use Rattle.table.specs.declared.geometry.Geometry.{Geometry}
 use Rattle.table.specs.Words.{stateForm, invalid, shared}
 use Rattle.table.specs.Forms.{form-facts}
-use Rattle.table.specs.Changes.{checkpointOf}
+use Rattle.table.specs.Changes.{checkpointOf, checkpoint-none}
 use Rattle.table.specs.Stores.{Store, entryStore, stateTo, valueTo, keptTo}
 use Rattle.table.specs.View.{Entry, View, current, kept}
 use Rattle.table.specs.Via.{Via, done, via-then, via-weaken, via-loosen}
 use Rattle.table.specs.Pass.{Steps, Changed}
 use Rattle.table.specs.Copies.{Copy, noCopy, backCopy, backBy, value-free}
-use Rattle.entries.specs.Frames.{setOf, setFrames, used, set-there}
+use Rattle.entries.specs.Frames.{setOf, setFrames, used, frameFree, set-there}
 use Rattle.entries.specs.SoundFacts.{SoundTable}
 use Rattle.homes.specs.declared.places.Place.{Place}
 use Rattle.homes.specs.declared.places.Place.the-variants.{Current, Kept}
-use Rattle.homes.specs.Home.{sharedAt, sharedItem, hasFrame, hasRoom, placeFits, droppedItem, currentLeft, arrivalOf, dropStores, arrivalChanges, homeStoresBy, homeStores}
+use Rattle.homes.specs.Home.{sharedAt, sharedItem, hasRoom, placeFits, droppedItem, currentLeft, arrivalOf, dropStores, arrivalChanges, homeStoresBy, homeStores}
 use Rattle.homes.specs.Places.{codeIn}
 use Rattle.homes.specs.Evict.{dropped, sourceStores, movedTo}
 use Rattle.homes.specs.Kept.{Live, live-test}
 use Rattle.homes.specs.SoundTells.{no-precommit, copies-agree}
 use Rattle.homes.specs.OneEntry.{OneAt, one-via, used-less}
-use Rattle.homes.specs.EvictEntry.{Arrives, Dropped, low-number, high-number, numbered, none-kept, current-arrives, taken-over, kept-arrives, current-leaves, kept-leaves, shared-drops}
+use Rattle.homes.specs.EvictEntry.{Arrives, Dropped, high-number, numbered, none-kept, current-arrives, taken-over, kept-arrives, current-leaves, kept-leaves, shared-drops}
 use Rattle.homes.specs.EvictTells.{kept-low, high-alone}
 use Rattle.homes.specs.Moving.{Moves, still, twice, moved, Moving}
 use Rattle.homes.specs.EvictVia.{Ready, Arrived, ready-moving, drop-via, arrive-via, leave-via}
@@ -60,8 +60,8 @@ module _ (g : Geometry) (v : View) (phase number n h b : ℕ) (good : SoundTable
   unfoldable dropsOf : ℕ → List Store
   dropsOf d = cond (ltb d (g .items)) (entryStore h d (stateTo invalid (kept (v .entry h d))) ∷ []) []
 
-  room-has : hasFrame g v h b ≡ true → (d : ℕ) → d ≡ g .items → Via g (Ready g v n h b source home other item) (Room d) v (dropsOf d)
-  unfolding hasFrame currentLeft dropsOf
+  room-has : frameFree g v h b ≡ true → (d : ℕ) → d ≡ g .items → Via g (Ready g v n h b source home other item) (Room d) v (dropsOf d)
+  unfolding currentLeft dropsOf
   room-has f d e =
       let l : used g v h (setOf g b) < setFrames g = ltb-true (used g v h (setOf g b)) (setFrames g) f in
       rw (le-ltb d (g .items) (omega arith))
@@ -88,9 +88,9 @@ module _ (g : Geometry) (v : View) (phase number n h b : ℕ) (good : SoundTable
   room-via : hasRoom g v h b ≡ true → Via g (Ready g v n h b source home other item) (Room (droppedItem g v h b)) v (dropsOf (droppedItem g v h b))
   unfolding hasRoom droppedItem sharedItem sharedAt
   room-via r =
-      by-cases (hasFrame g v h b)
+      by-cases (frameFree g v h b)
       (λ f. room-has f (droppedItem g v h b) (rw f refl))
-      (λ f. let l : sharedItem g v h < g .items = ltb-true (sharedItem g v h) (g .items) (other-holds (hasFrame g v h b) r f) in
+      (λ f. let l : sharedItem g v h < g .items = ltb-true (sharedItem g v h) (g .items) (other-holds (frameFree g v h b) r f) in
       let z : current (v .entry h (sharedItem g v h)) ≡ shared = eqb-true (current (v .entry h (sharedItem g v h))) shared (first-passes (sharedAt v h) (g .items) l) in
       rw f (room-drops (sharedItem g v h) l z))
 
@@ -160,9 +160,9 @@ module _ (g : Geometry) (v : View) (phase number n h b : ℕ) (good : SoundTable
       → Via g (Moving g n h b v) (Moving g n h b v) v (movedTo g v Current n b h ++ sourceStores Current n b (v .entry n b .state))
   plain-goes l coded f =
       current-moves (backCopy (v .entry h b)) (backCopy (v .entry n b)) (λ w x y. still x y) (λ w x y. still x y)
-      (λ e q z. ap (λ i. backBy i (kept e) valueAt (e .keptValue)) (low-number (current (v .entry n b)) l ∙ sym z)
+      (λ e q z. ap (λ i. backBy i (kept e) valueAt (e .keptValue)) (checkpoint-none (current (v .entry n b)) l ∙ sym z)
       ∙ value-free (checkpointOf (current e)) (kept e) (e .value) valueAt (e .keptValue) (rw z refl) ∙ q)
-      (ap (λ i. backBy i (kept (v .entry n b)) valueAt keptAt) (sym (low-number (current (v .entry n b)) l)))
+      (ap (λ i. backBy i (kept (v .entry n b)) valueAt keptAt) (sym (checkpoint-none (current (v .entry n b)) l)))
       (λ _. l) coded f
 
   home-plain : placeFits g v Current b h ≡ true → checkpointOf (current (v .entry h b)) ≡ 0
@@ -211,7 +211,7 @@ module _ (g : Geometry) (v : View) (phase number n h b : ℕ) (good : SoundTable
       (arriving u r))))
       (λ u _ r. leave-via g v n h b source home other item (backCopy (v .entry n b)) noCopy (λ w x y. twice none x y) (λ w x y. moved none x y) u r
       (kept-leaves (v .entry n b) (form-of n b source item) noCopy
-      (ap (λ i. backBy i 0 valueAt keptAt) (low-number (current (v .entry n b)) (low-at n source)) ∙ none-kept valueAt keptAt)))
+      (ap (λ i. backBy i 0 valueAt keptAt) (checkpoint-none (current (v .entry n b)) (low-at n source)) ∙ none-kept valueAt keptAt)))
     where
       fit : (eqb (kept (v .entry h b)) invalid ≡ true) × (hasRoom g v h b ≡ true)
       fit = both (eqb (kept (v .entry h b)) invalid) f
@@ -223,7 +223,7 @@ module _ (g : Geometry) (v : View) (phase number n h b : ℕ) (good : SoundTable
       low-at k l = kept-low g v phase number b good closed item n k source l coded
 
       none : backCopy (v .entry h b) ≡ noCopy
-      none = no-copy-at h (low-number (current (v .entry h b)) (low-at h home)) home-empty
+      none = no-copy-at h (checkpoint-none (current (v .entry h b)) (low-at h home)) home-empty
 
       arriving : (u : View) → Room (droppedItem g v h b) u
           → Steps (Arrives (u .entry h b) 1 (backCopy (v .entry n b))) (λ e. backCopy e ≡ backCopy (v .entry n b)) (u .entry h b)
@@ -232,9 +232,9 @@ module _ (g : Geometry) (v : View) (phase number n h b : ℕ) (good : SoundTable
           let l : current (u .entry h b) < 4 = rw (r .currentPlace) (left-low (current (v .entry h b)) (droppedItem g v h b) (low-at h home)) in
           kept-arrives (u .entry h b) (r .ready .held .forms h b home item) (r .keptPlace ∙ home-empty) (kept (v .entry n b)) keptAt (backCopy (v .entry n b))
           (form-facts (v .entry n b .state) (form-of n b source item) .keptCode) l
-          (ap (λ i. backBy i (kept (v .entry n b)) (u .entry h b .value) keptAt) (low-number (current (u .entry h b)) l ∙ sym (low-number (current (v .entry n b)) (low-at n source)))
+          (ap (λ i. backBy i (kept (v .entry n b)) (u .entry h b .value) keptAt) (checkpoint-none (current (u .entry h b)) l ∙ sym (checkpoint-none (current (v .entry n b)) (low-at n source)))
           ∙ value-free (checkpointOf (current (v .entry n b))) (kept (v .entry n b)) valueAt (u .entry h b .value) keptAt
-          (rw (low-number (current (v .entry n b)) (low-at n source)) refl))
+          (rw (checkpoint-none (current (v .entry n b)) (low-at n source)) refl))
 
   pub evict-moves-via :
       (place : Place) → codeIn place (v .entry n b) ≢ invalid → placeFits g v place b h ≡ true

@@ -41,7 +41,7 @@ use Rattle.homes.specs.EvictKind.{Between, CurrentGone, KeptGone, kind-c
 
 -- ---- no store is at word 0
 
-home-off : (g : Geometry) (place : Place) (h b code value : ℕ) (a : Arrival) → All (Off g) (homeStoresBy place h b code value a)
+pub home-off : (g : Geometry) (place : Place) (h b code value : ℕ) (a : Arrival) → All (Off g) (homeStoresBy place h b code value a)
 unfolding homeStoresBy dropStores
 home-off g place h b code value a = go (a .takeover) (a .drops)
   where

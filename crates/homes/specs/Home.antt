@@ -23,13 +23,9 @@ sharedAt v h b = eqb (current (v .entry h b)) shared
 unfoldable pub sharedItem : Geometry → View → ℕ → ℕ
 sharedItem g v h = first (sharedAt v h) (g .items)
 
--- "it has used < F": in the set of the item b whose copy is to come
-unfoldable pub hasFrame : Geometry → View → ℕ → ℕ → Bool
-hasFrame g v h b = frameFree g v h b
-
--- "it has used < F or drops its Shared copy of the lowest-numbered item"
+-- "it has used < F or drops its Shared copy of the lowest-numbered item": a frame in the set of the item b whose copy is to come
 unfoldable pub hasRoom : Geometry → View → ℕ → ℕ → Bool
-hasRoom g v h b = hasFrame g v h b || ltb (sharedItem g v h) (g .items)
+hasRoom g v h b = frameFree g v h b || ltb (sharedItem g v h) (g .items)
 
 -- "For a current copy its current place of that item is Shared (taken over, state word only) or Invalid; for a kept copy its kept place
 -- is Invalid. Save for the takeover, it has used < F or drops .."
@@ -66,7 +62,7 @@ noHome g v place n b = eqb (homeOf g v place n b) n
 
 -- the item whose Shared copy home h drops for a copy of item b; M if it has a frame
 unfoldable pub droppedItem : Geometry → View → ℕ → ℕ → ℕ
-droppedItem g v h b = cond (hasFrame g v h b) (g .items) (sharedItem g v h)
+droppedItem g v h b = cond (frameFree g v h b) (g .items) (sharedItem g v h)
 
 -- the home's current place of item b from then on: the copy dropped for a kept copy may be the same item's
 unfoldable pub currentLeft : ℕ → ℕ → ℕ → ℕ

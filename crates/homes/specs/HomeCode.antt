@@ -18,7 +18,7 @@ use Rattle.homes.specs.declared.places.Place.{Place}
 use Rattle.homes.specs.declared.places.Place.the-variants.{Current, Kept}
 use Rattle.homes.specs.declared.home.Arrival.{Arrival}
 use Rattle.homes.specs.Places.{codeOf, sharedIn}
-use Rattle.homes.specs.Home.{sharedAt, sharedItem, hasFrame, hasRoom, placeFits, fits, nodeAfter, fitsAfter, passedOver, homeOf, droppedItem, currentLeft, arrivalOf, dropStores, arrivalChanges, takeoverStores, homeStoresBy}
+use Rattle.homes.specs.Home.{sharedAt, sharedItem, hasRoom, placeFits, fits, nodeAfter, fitsAfter, passedOver, homeOf, droppedItem, currentLeft, arrivalOf, dropStores, arrivalChanges, takeoverStores, homeStoresBy}
 
 -- ---- the lowest Shared copy
 
@@ -39,18 +39,14 @@ shared-none g v h b k l none = let e : b ≡ g .items = omega arith in sym (rw e
 
 -- frames are ample, where a place of the entry is Invalid
 pub room-ample : (g : Geometry) (v : View) (h b : ℕ) {ample : Bool} → ample ≡ ampleFor g b → ample ≡ true → halfFree (v .entry h b .state) ≡ true → true ≡ hasRoom g v h b
-unfolding hasRoom hasFrame
+unfolding hasRoom
 room-ample g v h b p e k = sym (or-left _ (ample-free g v h b (sym p ∙ e) k))
 
-pub free-framed : (g : Geometry) (v : View) (h b : ℕ) {framed : Bool} → framed ≡ frameFree g v h b → framed ≡ hasFrame g v h b
-unfolding hasFrame
-free-framed g v h b p = p
-
 pub told-framed :
-    (g : Geometry) (v : View) (h b : ℕ) {framed : Bool} {w : ℕ} → framed ≡ frameFreeBy g v h b w → w ≡ v .entry h b .state → framed ≡ hasFrame g v h b
-told-framed g v h b p e = free-framed g v h b (p ∙ free-by g v h b e)
+    (g : Geometry) (v : View) (h b : ℕ) {framed : Bool} {w : ℕ} → framed ≡ frameFreeBy g v h b w → w ≡ v .entry h b .state → framed ≡ frameFree g v h b
+told-framed g v h b p e = p ∙ free-by g v h b e
 
-module _ (g : Geometry) (v : View) (h b : ℕ) {framed : Bool} (p : framed ≡ hasFrame g v h b) where
+module _ (g : Geometry) (v : View) (h b : ℕ) {framed : Bool} (p : framed ≡ frameFree g v h b) where
   pub room-framed : framed ≡ true → true ≡ hasRoom g v h b
   unfolding hasRoom
   room-framed e = rw (← p, e) refl

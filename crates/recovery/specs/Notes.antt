@@ -13,7 +13,7 @@ use Rattle.counting.specs.Counting.{every, every-at, every-none, every-next, ev
 use Rattle.counting.specs.Values.{metOf}
 use Rattle.table.specs.declared.geometry.Geometry.{Geometry}
 use Rattle.table.specs.declared.changes.Event.the-variants.{RollForward}
-use Rattle.table.specs.Changes.{changeOf, checkpointOf}
+use Rattle.table.specs.Changes.{changeOf, checkpointOf, checkpoint-low}
 use Rattle.table.specs.View.{Entry, View, current, kept}
 use Rattle.table.specs.Copies.{backBy, copyNumber, copyValue}
 use Rattle.survivors.specs.declared.lost.Lost.{Lost}
@@ -61,17 +61,14 @@ number-blank true e h = rw h refl
 number-blank false e h = rw h refl
 
 -- a number has two bits, and a weight unless it is 0
-checkpoint-small : (c : ℕ) → checkpointOf c < 4
-checkpoint-small c = by-cases (eqb c 4) (λ p. rw p (omega arith)) (λ p. by-cases (eqb c 5) (λ q. rw (p, q) (omega arith)) (λ q. rw (p, q) (omega arith)))
-
 by-small : (number k x y : ℕ) → number < 4 → k < 4 → copyNumber (backBy number k x y) < 4
 unfolding backBy
 by-small number k x y h l =
     by-cases (eqb number 0) (λ p. by-cases (eqb k 0) (λ q. rw (p, q) (omega arith)) (λ q. rw (p, q) l)) (λ p. rw p h)
 
 pub number-small : (forward : Bool) (e : Entry) → copyNumber (copyOn forward e) < 4
-number-small true e = by-small (checkpointOf (changeOf (current e) RollForward)) 0 (e .value) (e .keptValue) (checkpoint-small (changeOf (current e) RollForward)) (omega arith)
-number-small false e = by-small (checkpointOf (current e)) (kept e) (e .value) (e .keptValue) (checkpoint-small (current e)) (omega arith)
+number-small true e = by-small (checkpointOf (changeOf (current e) RollForward)) 0 (e .value) (e .keptValue) (omega (arith, checkpoint-low (changeOf (current e) RollForward))) (omega arith)
+number-small false e = by-small (checkpointOf (current e)) (kept e) (e .value) (e .keptValue) (omega (arith, checkpoint-low (current e))) (omega arith)
 
 weight-some : (k : ℕ) → k < 4 → eqb k 0 ≡ false → 1 ≤ numberWeight k
 unfolding every

@@ -5,8 +5,7 @@ use mathlib.Core.Logic.{_≢_}
 use mathlib.Core.Bool.{Bool, true, false, not, cond, _&&_}
 use mathlib.Core.List.{[]}
 use native.Mathlib.Omega.{arith}
-use native.Mathlib.Decide.{ℕ-discrete, decLt}
-use native.Mathlib.Nat.{mod-lt, div-lt-iff-lt-mul}
+use native.Mathlib.Decide.{ℕ-discrete}
 use lib.Arith.{digits-lt, digits-div, digits-mod}
 use lib.Dec.{eqb}
 use borrow.Author.Tests.{eqb-true, eqb-false}
@@ -16,7 +15,7 @@ use Rattle.table.specs.declared.geometry.Geometry.{Geometry}
 use Rattle.table.specs.Changes.{checkpointOf}
 use Rattle.table.specs.View.{Entry, View, live, current}
 use Rattle.table.specs.Via.{Via, via-loosen, via-weaken}
-use Rattle.table.specs.Pass.{Steps, last, steps-map, Each, Passed, pass-via, grid-once}
+use Rattle.table.specs.Pass.{Steps, last, steps-map, Each, Passed, pass-via, columns-within, grid-once}
 use Rattle.entries.specs.Tally.{has}
 use Rattle.entries.specs.Kinds.{has-live, has-code, has-at}
 use Rattle.homes.specs.Kept.{Live, live-test, test-live}
@@ -27,14 +26,6 @@ use Rattle.recovery.specs.Ready.{HasOne, Plain, Numbered}
 use Rattle.counting.specs.Ranks.{ranked}
 use Rattle.recovery.specs.NumberEntry.{Coded, code-number, number-code, SafeNumber, number-begins, number-steps}
 use Rattle.recovery.specs.NumberItem.{NumberEnd, Told, item-numbered, item-told}
-
--- by item, then node: place k is item k / N, node k % N
-pub columns-within : (g : Geometry) (k : ℕ) → k < g .items * g .nodes → (k % g .nodes < g .nodes) × (k / g .nodes < g .items)
-columns-within g k h =
-    elim (decLt 0 (g .nodes)) [
-      | yes s ↦ (mod-lt k s, div-lt-iff-lt-mul s .1 h)
-      | no s ↦ absurd (let z : g .nodes ≡ 0 = omega arith in let h′ : k < g .items * 0 = rw z at h in omega arith)
-    ]
 
 module _ (g : Geometry) (saved : ℕ → ℕ) (w u : View) (plain : Plain g saved w u) where
   -- the lower holders of the number that node n holds item b with
@@ -131,10 +122,10 @@ unfolding numberStores
 number-via g saved w u plain =
     via-loosen
     (via-weaken
-    (pass-via g (safeAt g saved w u plain) u (λ k. k % g .nodes) (λ k. k / g .nodes) (g .items * g .nodes) (columns-within g)
+    (pass-via g (safeAt g saved w u plain) u (λ k. k % g .nodes) (λ k. k / g .nodes) (g .items * g .nodes) (columns-within (g .nodes) (g .items))
     (λ k d _ _ e f. grid-once (g .nodes) k d f e) (λ k. NumberEnd g u (k % g .nodes) (k / g .nodes))
     (λ k. numberChange g u (k % g .nodes) (k / g .nodes)) u
-    (λ k h. let i = columns-within g k h in local g saved w u plain (k % g .nodes) (k / g .nodes) (i .0) (i .1))
+    (λ k h. let i = columns-within (g .nodes) (g .items) k h in local g saved w u plain (k % g .nodes) (k / g .nodes) (i .0) (i .1))
     (record { marks = refl; entries = begin g saved w u plain }))
     (λ x ex px. all-numbered g saved w u plain x ex px))
     (λ x ex. stays-plain g saved w u plain x ex)

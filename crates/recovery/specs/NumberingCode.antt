@@ -4,8 +4,7 @@ use mathlib.Core.Path.{_≡_, refl, sym, ap, _∙_}
 use mathlib.Core.Bool.{true, false, cond, not, _&&_}
 use mathlib.Core.List.{List, [], map}
 use native.Mathlib.Omega.{arith}
-use native.Mathlib.Decide.{ℕ-discrete, decLt}
-use native.Mathlib.Nat.{mod-lt, div-lt-iff-lt-mul}
+use native.Mathlib.Decide.{ℕ-discrete}
 use lib.Arith.{digits-div, digits-mod}
 use lib.Dec.{eqb}
 use lib.ListN.{length, getD}
@@ -15,10 +14,10 @@ use Rattle.counting.specs.Counting.{one, Counted, count-none, count-next, count
 use Rattle.table.specs.declared.geometry.Geometry.{Geometry}
 use Rattle.table.specs.Geometry.{wordsOf}
 use Rattle.table.specs.Words.{invalid, sharedCK1, sharedCK2, currentOf}
-use Rattle.table.specs.Changes.{checkpointOf}
+use Rattle.table.specs.Changes.{checkpointOf, checkpoint-low}
 use Rattle.table.specs.Stores.{Store, Change, Stored, entryStore, runs, runs-ext, runs-add, stored-then, stored-as, stored-none, loop-starts, loop-turns}
 use Rattle.table.specs.View.{Entry, View, view, live, current, kept}
-use Rattle.table.specs.Pass.{pass, grid-once}
+use Rattle.table.specs.Pass.{pass, columns-within, grid-once}
 use Rattle.table.specs.PassLeaves.{pass-marks, pass-entry}
 use Rattle.entries.specs.Tally.{has}
 use Rattle.survivors.specs.declared.lost.Lost.{Lost}
@@ -132,11 +131,8 @@ module _ (number lower others : ℕ) where
     unfolding numberAfter
     after-further e = rw (ne-eqb lower 0 h, e) refl
 
-number-small : (c : ℕ) → checkpointOf c < 3
-number-small c = by-cases (eqb c 4) (λ e. rw e (omega arith)) (λ e. by-cases (eqb c 5) (λ f. rw (e, f) (omega arith)) (λ f. rw (e, f) (omega arith)))
-
 pub number-fits : (c : ℕ) {number : ℕ} → number ≡ checkpointOf c → number < 3
-number-fits c e = omega (arith, number-small c)
+number-fits c e = omega (arith, checkpoint-low c)
 
 -- ---- the turn of one entry
 
@@ -181,7 +177,7 @@ unfolding numberChange numberBy survivorCode
 changes-by g w n b {c} h p q =
     by-cases (live w n)
     (λ e. let s : c ≡ current (w .entry n b) = h ∙ rw e refl in
-    rw (e, s) (numbered g w n b (w .entry n b) p q (checkpointOf (current (w .entry n b))) (number-small (current (w .entry n b)))))
+    rw (e, s) (numbered g w n b (w .entry n b) p q (checkpointOf (current (w .entry n b))) (checkpoint-low (current (w .entry n b)))))
     (λ e. let z : c ≡ 0 = h ∙ rw e refl in rw (e, z) refl)
 
 -- ---- one item: a turn finds its entry as it was at the item's start, whatever the limit
@@ -270,17 +266,10 @@ pub numbers-end :
 unfolding numbersBefore numberStores
 numbers-end g w b h k s = let e : b ≡ g .items = omega arith in rw e at s
 
-row-within : (N b k : ℕ) → k < b * N → (k % N < N) × (k / N < b)
-row-within N b k h =
-    elim (decLt 0 N) [
-      | yes s ↦ (mod-lt k s, div-lt-iff-lt-mul s .1 h)
-      | no s ↦ absurd (let z : N ≡ 0 = omega arith in let h′ : k < b * 0 = rw z at h in omega arith)
-    ]
-
 module _ (g : Geometry) (lost : Lost) (b : ℕ) (hb : b < g .items) {left left₁ : ℕ} {t t₁ : List ℕ} (long : wordsOf g ≤ length t)
     (s : Stored g left (numbersBefore g (survivors lost (view g t)) b) t t₁ left₁) where
   within : (d : ℕ) → d < b * g .nodes → (d % g .nodes < g .nodes) × (d / g .nodes < g .items)
-  within d l = let r = row-within (g .nodes) b d l in (r .0, omega (arith, r .1))
+  within d l = let r = columns-within (g .nodes) b d l in (r .0, omega (arith, r .1))
 
   row-found : (n : ℕ) → numberChange g (survivors lost (view g t₁)) n b ≡ numberChange g (survivors lost (view g t)) n b
   unfolding numbersBefore
@@ -292,7 +281,7 @@ module _ (g : Geometry) (lost : Lost) (b : ℕ) (hb : b < g .items) {left left�
       (ap (λ f. f k) (pass-marks g (λ k. k % N) (λ k. k / N) (b * N) within (λ d e _ _ p q. grid-once N d e q p) (λ k. numberChange g w (k % N) (k / N)) long s)))
       (λ k. ap (λ f. f k b) (survivor-entry lost (view g t₁))
       ∙ pass-entry g (λ k. k % N) (λ k. k / N) (b * N) within (λ d e _ _ p q. grid-once N d e q p) (λ k. numberChange g w (k % N) (k / N)) long s k b
-      (λ d l _ q. absurd (omega (arith, row-within N b d l .1)))
+      (λ d l _ q. absurd (omega (arith, columns-within N b d l .1)))
       ∙ ap (λ f. f k b) (sym (survivor-entry lost (view g t)))) g n
 
   -- an item's turn, by its tally at the start

@@ -13,14 +13,13 @@ use Rattle.counting.specs.Counting.{one, sum, sum-ext, count, Only, only-counts
 use Rattle.counting.specs.First.{first, first-found, first-none, first-least, first-passes}
 use Rattle.table.specs.declared.geometry.Geometry.{Geometry}
 use Rattle.table.specs.Words.{invalid, sharedCK1, sharedCK2}
-use Rattle.table.specs.Changes.{checkpointOf}
+use Rattle.table.specs.Changes.{checkpoint-code}
 use Rattle.table.specs.View.{View, live, current}
 use Rattle.entries.specs.Frames.{setOf, setFrames, framesIn, framesAt, used}
 use Rattle.entries.specs.Tally.{has, copy}
 use Rattle.entries.specs.Kinds.{copy-code, copy-live, no-copy}
 use Rattle.entries.specs.Codes.{two-codes, all-codes}
 use Rattle.homes.specs.Kept.{Live, live-test, test-live}
-use Rattle.homes.specs.Home.{hasFrame}
 use Rattle.homes.specs.HomeCode.{after-below}
 use Rattle.homes.specs.HomeLaws.{after-other, after-reaches}
 use Rattle.counting.specs.Crowded.{sum-at, sum-fewer, crowded}
@@ -40,11 +39,6 @@ only-first n p m o =
     first-found p m n
     (first-none p m (λ k l. by-cases (p k) (λ e. absurd (let q = o .alone k (omega (arith, o .within)) e in omega arith)) (λ e. e)))
     (o .holds) (o .within)
-
--- the codes with a number
-pub code-either : (c : ℕ) → checkpointOf c ≢ 0 → (c ≡ sharedCK1) ⊎ (c ≡ sharedCK2)
-code-either c d =
-    by-cases (eqb c 4) (λ e. inl (eqb-true c 4 e)) (λ e. by-cases (eqb c 5) (λ f. inr (eqb-true c 5 f)) (λ f. absurd (d (rw (e, f) refl))))
 
 module _ (g : Geometry) (saved : ℕ → ℕ) (w u : View) (plain : Plain g saved w u) where
   -- how many copies node n has
@@ -66,7 +60,7 @@ module _ (g : Geometry) (saved : ℕ → ℕ) (w u : View) (plain : Plain g save
   -- a copy is a Shared-CK
   pub coded : (b n : ℕ) → b < g .items → n < g .nodes → copy u b n ≡ true → (current (u .entry n b) ≡ sharedCK1) ⊎ (current (u .entry n b) ≡ sharedCK2)
   coded b n hb hn t =
-      code-either (current (u .entry n b)) (plain .entries n b (test-live g u n hn (copy-live u b n t)) hb .code (copy-code u b n t))
+      checkpoint-code (current (u .entry n b)) (plain .entries n b (test-live g u n hn (copy-live u b n t)) hb .code (copy-code u b n t))
 
   pub pair-copies : (b : ℕ) → b < g .items → Paired g u b → count (copy u b) (g .nodes) ≡ 2
   pair-copies b hb p =
@@ -113,7 +107,7 @@ module _ (g : Geometry) (saved : ℕ → ℕ) (w u : View) (plain : Plain g save
     empty-elsewhere n l d t = no-copy u b n t (by-cases (copy u b n) (λ e. absurd (d (o .alone n l e))) (λ e. e))
 
     full : (n : ℕ) → n < g .nodes → n ≢ a → live u n ≡ true → takes g u b n ≡ false → g .frames ≤ holds n
-    unfolding takes hasFrame
+    unfolding takes
     full n l d t e =
         let f = and-no-right (live u n) t e in
         let f′ = and-no-right (eqb (current (u .entry n b)) invalid) (eq-eqb (current (u .entry n b)) invalid (empty-elsewhere n l d t)) f in
@@ -148,7 +142,7 @@ module _ (g : Geometry) (saved : ℕ → ℕ) (w u : View) (plain : Plain g save
       pub free : used g u m (setOf g b) + 1 ≤ setFrames g
 
     pub partner-found : Found (partnerOf g u b a)
-    unfolding partnerOf takesAfter takes hasFrame
+    unfolding partnerOf takesAfter takes
     partner-found =
         let l = found-few in
         let t = both (live u (partnerOf g u b a)) (first-passes (takesAfter g u b a) (g .nodes - 1) l) in

@@ -12,7 +12,8 @@ use Rattle.table.specs.Changes.{checkpointOf}
 use Rattle.table.specs.Stores.{Store, Change, entryStore, valueTo, stateTo}
 use Rattle.table.specs.View.{Entry, View, live, current, updates}
 use Rattle.entries.specs.Tally.{copy}
-use Rattle.homes.specs.Home.{hasFrame, nodeAfter}
+use Rattle.entries.specs.Frames.{frameFree}
+use Rattle.homes.specs.Home.{nodeAfter}
 use Rattle.recovery.specs.Rolling.{sharedCK}
 
 -- item b has one copy, and its holder
@@ -24,7 +25,7 @@ holderOf g w b = first (copy w b) (g .nodes)
 
 -- a node that can take the partner of item b's copy
 unfoldable pub takes : Geometry → View → ℕ → ℕ → Bool
-takes g w b n = live w n && (eqb (current (w .entry n b)) invalid && hasFrame g w n b)
+takes g w b n = live w n && (eqb (current (w .entry n b)) invalid && frameFree g w n b)
 
 -- the test of the node i + 1 steps after n
 unfoldable pub takesAfter : Geometry → View → ℕ → ℕ → ℕ → Bool

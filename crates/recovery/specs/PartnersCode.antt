@@ -21,7 +21,7 @@ use Rattle.table.specs.Stores.{Store, Stored, StoredIn, entryStore, valueTo, st
 use Rattle.table.specs.View.{Entry, View, view, live, current, updates}
 use Rattle.entries.specs.Frames.{setFrames, used, framesAt}
 use Rattle.entries.specs.Tally.{copy}
-use Rattle.homes.specs.Home.{hasFrame, nodeAfter}
+use Rattle.homes.specs.Home.{nodeAfter}
 use Rattle.homes.specs.HomeCode.{after-below}
 use Rattle.homes.specs.HomeLaws.{after-all}
 use Rattle.survivors.specs.declared.lost.Lost.{Lost}
@@ -74,7 +74,7 @@ pub record Turned (g : Geometry) (lost : Lost) (f : View → List Store) (left :
 
 module _ (g : Geometry) (w : View) (s : List ℕ) (b : ℕ) where
   takes-same : AgreesTo g w s (g .nodes) → (m : ℕ) → m < g .nodes → takesBy g w s b m ≡ takes g w b m
-  unfolding takesBy takes hasFrame
+  unfolding takesBy takes
   takes-same a m l = by-cases (live w m) (λ e. rw (e, a .at m l e) refl) (λ e. rw e refl)
 
   partner-same : AgreesTo g w s (g .nodes) → (n : ℕ) → n < g .nodes → partnerBy g w s b n ≡ partnerOf g w b n

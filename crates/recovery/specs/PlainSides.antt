@@ -5,22 +5,16 @@ use mathlib.Core.Logic.{_≢_, _⊎_, inl, inr}
 use mathlib.Core.Bool.{Bool, true, false, cond}
 use native.Mathlib.Decide.{ℕ-discrete}
 use lib.Dec.{eqb}
-use borrow.Author.Tests.{eqb-true}
-use Rattle.counting.specs.Tests.{by-cases}
 use Rattle.table.specs.declared.geometry.Geometry.{Geometry}
 use Rattle.table.specs.declared.changes.Event.the-variants.{RollForward}
 use Rattle.table.specs.Words.{sharedCK1, sharedCK2}
-use Rattle.table.specs.Changes.{changeOf, checkpointOf}
+use Rattle.table.specs.Changes.{changeOf, checkpointOf, checkpoint-code}
 use Rattle.table.specs.View.{Entry, View, current}
 use Rattle.table.specs.Copies.{backBy, backCopy, copyNumber, copyValue, back-number}
 use Rattle.homes.specs.Kept.{Live}
 use Rattle.checkpoints.specs.Forward.{forwardCopy, forward-value}
 use Rattle.recovery.specs.Sides.{copyOn}
 use Rattle.recovery.specs.Ready.{Sided, PlainEntry, HasOne}
-
-pub checkpoint-code : (c : ℕ) → checkpointOf c ≢ 0 → (c ≡ sharedCK1) ⊎ (c ≡ sharedCK2)
-checkpoint-code c d = by-cases (eqb c sharedCK1) (λ p. inl (eqb-true c sharedCK1 p))
-    (λ p. by-cases (eqb c sharedCK2) (λ q. inr (eqb-true c sharedCK2 q)) (λ q. absurd (d (rw (p, q) refl))))
 
 -- the column "roll forward": Invalid and a Shared-CK stay
 forward-stays : (c : ℕ) → (c ≢ 0 → checkpointOf c ≢ 0) → changeOf c RollForward ≡ c

@@ -4,8 +4,6 @@ use mathlib.Core.Path.{_≡_, refl, sym, ap, _∙_, fun-ext}
 use mathlib.Core.Bool.{Bool, false}
 use mathlib.Core.List.{List}
 use native.Mathlib.Omega.{arith}
-use native.Mathlib.Decide.{decLt}
-use native.Mathlib.Nat.{mod-lt, div-lt-iff-lt-mul}
 use lib.Dec.{eqb}
 use lib.ListN.{length}
 use lib.Seq.{take-all}
@@ -15,7 +13,7 @@ use Rattle.table.specs.Geometry.{wordsOf}
 use Rattle.table.specs.Stores.{Store, Stored, markStore, All, none, more, after-zero, stored-then, stored-as}
 use Rattle.table.specs.View.{View, view, put₁, updates}
 use Rattle.table.specs.ViewAfter.{Within, view-after}
-use Rattle.table.specs.Pass.{grid-within}
+use Rattle.table.specs.Pass.{columns-within, grid-within}
 use Rattle.checkpoints.specs.Checkpoint.{liveChanges, entriesBefore, entriesTo}
 use Rattle.survivors.specs.declared.lost.Lost.{Lost}
 use Rattle.survivors.specs.declared.lost.Lost.the-variants.{Nobody, Node}
@@ -40,11 +38,7 @@ entered-roll g w =
 
 -- "items ascending, then node"
 pub column-within : (g : Geometry) (k : ℕ) → k < g .items * g .nodes → (k % g .nodes < g .nodes) × (k / g .nodes < g .items)
-column-within g k h =
-    elim (decLt 0 (g .nodes)) [
-      | yes s ↦ (mod-lt k s, div-lt-iff-lt-mul s .1 h)
-      | no s ↦ absurd (let z : g .nodes ≡ 0 = omega arith in let h′ : k < g .items * 0 = rw z at h in omega arith)
-    ]
+column-within g = columns-within (g .nodes) (g .items)
 
 pub entered-number : (g : Geometry) (w : View) → All (Entered g) (numberStores g w)
 unfolding numberStores

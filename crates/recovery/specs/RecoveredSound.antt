@@ -10,6 +10,7 @@ use Rattle.counting.specs.Tests.{by-cases}
 use Rattle.table.specs.declared.geometry.Geometry.{Geometry}
 use Rattle.table.specs.Words.{markForm, phaseOf, numberOf, phase-mark, number-mark, sharedCK1, sharedCK2}
 use Rattle.table.specs.Forms.{mark-form}
+use Rattle.table.specs.Changes.{checkpoint-code}
 use Rattle.table.specs.View.{View, live, current, kept}
 use Rattle.entries.specs.Kinds.{cleanCode, Clean, clean, copy-live, copy-code}
 use Rattle.entries.specs.SoundFacts.{SoundTable}
@@ -17,7 +18,7 @@ use Rattle.homes.specs.Kept.{Live, live-test, test-live}
 use Rattle.checkpoints.specs.MarksSound.{NewMarks, was-live}
 use Rattle.homes.specs.Serves.{CurrentHave, BackHave}
 use Rattle.recovery.specs.Ready.{PlainEntry}
-use Rattle.recovery.specs.PlainSides.{checkpoint-code, plain-value}
+use Rattle.recovery.specs.PlainSides.{plain-value}
 use Rattle.recovery.specs.Recovered.{Recovered}
 
 -- "a node is dead if its mark is all zero"

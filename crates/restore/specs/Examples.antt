@@ -28,7 +28,7 @@ use Rattle.calls.specs.Transitions.{changeTo}
 use Rattle.entries.specs.Dirty.{ownsAt, ownerOf, dirty, dirtyItem}
 use Rattle.checkpoints.specs.Checkpoint.{commonMark, isOpen, openAdmission, liveChanges, entriesBefore}
 use Rattle.checkpoints.specs.Closing.{commitChange, closeChange}
-use Rattle.homes.specs.Home.{sharedAt, sharedItem, hasFrame, hasRoom, placeFits, fits, nodeAfter, fitsAfter, passedOver, homeOf, droppedItem, currentLeft, arrivalOf, dropStores, arrivalChanges, homeStoresBy, homeStores}
+use Rattle.homes.specs.Home.{sharedAt, sharedItem, hasRoom, placeFits, fits, nodeAfter, fitsAfter, passedOver, homeOf, droppedItem, currentLeft, arrivalOf, dropStores, arrivalChanges, homeStoresBy, homeStores}
 use Rattle.calls.specs.Read.{servesAt, serverOf, fetchFrom, readStores, readValue}
 use Rattle.calls.specs.Write.{otherChanges, otherStores, ownKeep, keptAfter, ownChanges, writeStores}
 use Rattle.homes.specs.Evict.{sourceStores, movedTo, evictStores, placeAdmission}
@@ -204,5 +204,5 @@ Given [] = Unit {0}
 Given (r ∷ rs) = (r .given ≡ r .written) × Given rs
 
 pub examples-given : Given examples
-unfolding every sum count first firstOr valuesOf geometryOf changeOf runs after view markTo marksTo backBy firstEntries formatStores formatMade framesIn framesAt used framesFit itemTest marksForm phasesOf pointsOf statesForm nodeSound nodesSound itemSound itemsSound sound lengthOf sizesOf soundOf faultOf planAdmitted planChecked planBy admissionOf frameFull frameAdmission changeTo commonMark isOpen openAdmission ownsAt ownerOf dirty dirtyItem liveChanges entriesBefore commitChange closeChange sharedAt sharedItem hasFrame hasRoom placeFits fits nodeAfter fitsAfter passedOver homeOf droppedItem currentLeft arrivalOf dropStores arrivalChanges homeStoresBy homeStores servesAt serverOf fetchFrom readStores readValue otherChanges otherStores ownKeep keptAfter ownChanges writeStores sourceStores movedTo evictStores placeAdmission startAdmission sharesAt sharerOf createdPartner createItem noPartner createPlan commitStores createdAdmission exists survivorCount forwardIn copiesOn itemFits itemsFit bringBack settled rollChange rollStores holders numberAfter numberChange numberStores single holderOf takes takesAfter partnerOf partnerChanges partnerFrom partnerStores staged partnersStores largest largestNumber closingStores followed survivorStores recoverStores survivorsFormed tooFewWith tooFew recoverAdmission recoverChecked recoverOf planOf run Given
+unfolding every sum count first firstOr valuesOf geometryOf changeOf runs after view markTo marksTo backBy firstEntries formatStores formatMade framesIn framesAt used framesFit itemTest marksForm phasesOf pointsOf statesForm nodeSound nodesSound itemSound itemsSound sound lengthOf sizesOf soundOf faultOf planAdmitted planChecked planBy admissionOf frameFull frameAdmission changeTo commonMark isOpen openAdmission ownsAt ownerOf dirty dirtyItem liveChanges entriesBefore commitChange closeChange sharedAt sharedItem hasRoom placeFits fits nodeAfter fitsAfter passedOver homeOf droppedItem currentLeft arrivalOf dropStores arrivalChanges homeStoresBy homeStores servesAt serverOf fetchFrom readStores readValue otherChanges otherStores ownKeep keptAfter ownChanges writeStores sourceStores movedTo evictStores placeAdmission startAdmission sharesAt sharerOf createdPartner createItem noPartner createPlan commitStores createdAdmission exists survivorCount forwardIn copiesOn itemFits itemsFit bringBack settled rollChange rollStores holders numberAfter numberChange numberStores single holderOf takes takesAfter partnerOf partnerChanges partnerFrom partnerStores staged partnersStores largest largestNumber closingStores followed survivorStores recoverStores survivorsFormed tooFewWith tooFew recoverAdmission recoverChecked recoverOf planOf run Given
 examples-given = (refl, (refl, (refl, (refl, (refl, (refl, (refl, (refl, (refl, (refl, (refl, (refl, (refl, (refl, (refl, (refl, (refl, (refl, (refl, (refl, (refl, (refl, (refl, (refl, (refl, (refl, (refl, tt)))))))))))))))))))))))))))

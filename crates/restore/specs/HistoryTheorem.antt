@@ -8,6 +8,7 @@ use native.Mathlib.Omega.{arith}
 use native.Mathlib.Decide.{ℕ-discrete}
 use Rattle.table.specs.declared.geometry.Geometry.{Geometry}
 use Rattle.table.specs.Words.{sharedCK1, sharedCK2}
+use Rattle.table.specs.Changes.{checkpoint-code}
 use Rattle.table.specs.View.{View, view, live, current}
 use Rattle.entries.specs.Kinds.{has-live, has-code, has-at, has-apart}
 use Rattle.restore.specs.Call.{accepted}
@@ -17,7 +18,6 @@ use Rattle.restore.specs.Strike.{recovered, memoryBy, commitsBy}
 use Rattle.restore.specs.OneItem.{OnTwoNodes}
 use Rattle.restore.specs.History.{History, begun, wholeCall, struckCall, HistoryDemand}
 use Rattle.recovery.specs.Recovered.{Recovered}
-use Rattle.recovery.specs.PlainSides.{checkpoint-code}
 use Rattle.recovery.specs.RecoveredSound.{plain-at}
 use Rattle.restore.specs.HitReady.{live-inside}
 use Rattle.restore.specs.Good.{Good}

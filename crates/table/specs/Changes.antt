@@ -1,12 +1,17 @@
 -- The state table: what the current place of a copy becomes, by event.
-use Prim.Native.Nat.{ℕ, _%_}
-use mathlib.Core.Path.{_≡_, sym, ap, _∙_}
+use Prim.Native.Nat.{ℕ, _%_, _<_}
+use mathlib.Core.Path.{_≡_, refl, sym, ap, _∙_}
+use mathlib.Core.Logic.{_≢_, _⊎_, inl, inr}
 use mathlib.Core.Bool.{cond}
 use mathlib.Core.List.{List, [], _∷_}
+use native.Mathlib.Omega.{arith}
 use lib.Dec.{eqb}
 use lib.ListN.{getD}
+use borrow.Author.Tests.{eqb-true, ne-eqb}
+use Rattle.counting.specs.Tests.{by-cases}
 use Rattle.table.specs.declared.changes.Event.{Event}
 use Rattle.table.specs.declared.changes.Event.the-variants.{OtherReads, OtherWrites, Commit, Abandon, RollBack, RollForward}
+use Rattle.table.specs.Words.{sharedCK1, sharedCK2}
 
 -- "it moves to the kept place as the Inv-CK of its number"
 abbrev pub keep : ℕ
@@ -51,3 +56,15 @@ change-row state k event h e q = q ∙ ap (λ l. getD l (columnOf event) 0) (sym
 -- the number of a Shared-CK copy, or 0
 abbrev pub checkpointOf : ℕ → ℕ
 checkpointOf current = cond (eqb current 4) 1 (cond (eqb current 5) 2 0)
+
+-- the codes below Shared-CK have none
+pub checkpoint-none : (c : ℕ) → c < 4 → checkpointOf c ≡ 0
+checkpoint-none c h = rw (ne-eqb c 4 (λ e. omega arith), ne-eqb c 5 (λ e. omega arith))
+
+pub checkpoint-low : (c : ℕ) → checkpointOf c < 3
+checkpoint-low c = by-cases (eqb c 4) (λ e. rw e (omega arith)) (λ e. by-cases (eqb c 5) (λ f. rw (e, f) (omega arith)) (λ f. rw (e, f) (omega arith)))
+
+-- the codes with a number
+pub checkpoint-code : (c : ℕ) → checkpointOf c ≢ 0 → (c ≡ sharedCK1) ⊎ (c ≡ sharedCK2)
+checkpoint-code c d = by-cases (eqb c sharedCK1) (λ p. inl (eqb-true c sharedCK1 p))
+    (λ p. by-cases (eqb c sharedCK2) (λ q. inr (eqb-true c sharedCK2 q)) (λ q. absurd (d (rw (p, q) refl))))

@@ -95,14 +95,19 @@ module _ (g : Geometry) (p : ℕ → ℕ → Entry → Type 0) (v : View) where
     pub pass-via : Each p v u → Via g (Each p v) (Passed nd it z u places) u (pass nd it changes places)
     pass-via eu = via-runs (Passed nd it z u) places _ turn eu (record { good = λ d l. absurd (omega arith); rest = λ n b h. refl })
 
+-- ---- by item, then node: place k is item k / N, node k % N, of the b items before item b
+
+pub columns-within : (N b k : ℕ) → k < b * N → (k % N < N) × (k / N < b)
+columns-within N b k h =
+    elim (decLt 0 N) [
+      | yes s ↦ (mod-lt k s, div-lt-iff-lt-mul s .1 h)
+      | no s ↦ absurd (let z : N ≡ 0 = omega arith in let h′ : k < b * 0 = rw z at h in omega arith)
+    ]
+
 -- ---- by node, then item: place k is node k / M, item k % M
 
 pub grid-within : (g : Geometry) (k : ℕ) → k < g .nodes * g .items → (k / g .items < g .nodes) × (k % g .items < g .items)
-grid-within g k h =
-    elim (decLt 0 (g .items)) [
-      | yes s ↦ (div-lt-iff-lt-mul s .1 h, mod-lt k s)
-      | no s ↦ absurd (let z : g .items ≡ 0 = omega arith in let h′ : k < g .nodes * 0 = rw z at h in omega arith)
-    ]
+grid-within g k h = let r = columns-within (g .items) (g .nodes) k h in (r .1, r .0)
 
 pub grid-once : (M k d : ℕ) → k / M ≡ d / M → k % M ≡ d % M → k ≡ d
 grid-once M k d p q = sym (div-add-mod' k M) ∙ ap₂ (λ x y. x * M + y) p q ∙ div-add-mod' d M

@@ -7,6 +7,7 @@ use native.Mathlib.Nat.{zero-sub, suc-sub-suc, sub-zero, add-zero}
 use native.Mathlib.Omega.{arith}
 use native.Mathlib.Numerals.{add-one}
 use lib.Arith.{digits-div, digits-mod}
+use lib.Dec.{lit<}
 use lib.ListN.{length, getD, set, length-set, length-append}
 use lib.Seq.{set-out, getD-set-other}
 use Rattle.counting.specs.Counting.{sum}
@@ -32,6 +33,11 @@ abbrev pub partOf : Change → ℕ
 partOf (stateTo c k) = 0
 partOf (valueTo x) = 1
 partOf (keptTo x) = 2
+
+pub part-low : (c : Change) → partOf c < 3
+part-low (stateTo c k) = lit< tt
+part-low (valueTo x) = lit< tt
+part-low (keptTo x) = lit< tt
 
 abbrev pub changeWord : Change → ℕ
 changeWord (stateTo c k) = stateWord c k

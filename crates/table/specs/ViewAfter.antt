@@ -12,7 +12,7 @@ use borrow.Author.Tests.{ltb-true, lt-ltb}
 use Rattle.table.specs.declared.geometry.Geometry.{Geometry}
 use Rattle.counting.specs.Tests.{both}
 use Rattle.table.specs.Geometry.{markAt, entryAt, wordsOf, entry-within, entries-apart}
-use Rattle.table.specs.Stores.{Change, stateTo, valueTo, keptTo, partOf, changeWord, Store, sizeStore, markStore, entryStore, placeOf, wordOf, after, All, none, more}
+use Rattle.table.specs.Stores.{Change, stateTo, valueTo, keptTo, partOf, part-low, changeWord, Store, sizeStore, markStore, entryStore, placeOf, wordOf, after, All, none, more}
 use Rattle.table.specs.View.{view, entryIn, blank, there, changed, update, updates}
 use Rattle.table.specs.Puts.{put₁-case, put₂-case}
 
@@ -21,11 +21,6 @@ abbrev pub Within : Geometry → Store → Type 0
 Within g (sizeStore h) = Unit {0}
 Within g (markStore n w) = n < g .nodes
 Within g (entryStore n b c) = (n < g .nodes) × (b < g .items)
-
-part-low : (c : Change) → partOf c < 3
-part-low (stateTo c k) = lit< tt
-part-low (valueTo x) = lit< tt
-part-low (keptTo x) = lit< tt
 
 -- a store in the entry at a word, and one elsewhere
 in-here : (t : List ℕ) (at : ℕ) (c : Change) → at + 2 < length t → entryIn (set t (at + partOf c) (changeWord c)) at ≡ changed c (entryIn t at)

@@ -1,5 +1,5 @@
 -- `has_room` meets its contract: ample frames, a free frame, or a copy to drop. Assumes nothing.
-use Rattle.homes.specs.HomeCode.{room-ample, free-framed, room-framed, room-drops}
+use Rattle.homes.specs.HomeCode.{room-ample, room-framed, room-drops}
 use borrow.Author.Needs.{needs}
 use Rattle.homes.proofs.home.has_room.Statement.{statement}
 use Rattle.homes.proofs.home.has_room.Tie as tie
@@ -8,11 +8,11 @@ returns : tie.Need-returns
 returns c = room-ample _ _ _ _ (c .before .ample .ensures) (c .if1 .taken) (c .before .before .before .pre)
 
 returns-2 : tie.Need-returns-2
-returns-2 c = room-framed _ _ _ _ (free-framed _ _ _ _ (c .before .frame-free .ensures)) (c .if2 .taken)
+returns-2 c = room-framed _ _ _ _ (c .before .frame-free .ensures) (c .if2 .taken)
 
 returns-3 : tie.Need-returns-3
 returns-3 c =
-    room-drops _ _ _ _ (free-framed _ _ _ _ (c .before .before .frame-free .ensures)) (c .before .if2 .left) (c .shared-item .ensures)
+    room-drops _ _ _ _ (c .before .before .frame-free .ensures) (c .before .if2 .left) (c .shared-item .ensures)
 
 pub has-room-spec : {M : Type 1} → statement M
 has-room-spec =
