@@ -115,17 +115,9 @@ module _ (g : Geometry) (v : View) (b : ℕ) where
 
 -- a home drops a Shared copy of another item
 module _ (g : Geometry) (v : View) (h b : ℕ) where
-  dropped-shared : droppedItem g v h b < g .items → current (v .entry h (droppedItem g v h b)) ≡ shared
-  unfolding droppedItem sharedItem sharedAt
-  dropped-shared = go (frameFree g v h b)
-    where
-      go : (q : Bool) → cond q (g .items) (sharedItem g v h) < g .items → current (v .entry h (cond q (g .items) (sharedItem g v h))) ≡ shared
-      go true l = absurd (omega arith)
-      go false l = eqb-true _ shared (first-passes (sharedAt v h) (g .items) l)
-
   dropped-other : b < g .items → current (v .entry h b) ≡ invalid → droppedItem g v h b ≢ b
   dropped-other l z e =
-      let s = dropped-shared (omega arith) in
+      let s = drops-shared g v h b (omega arith) in
       let r : current (v .entry h b) ≡ shared = sym (ap (λ c. current (v .entry h c)) e) ∙ s in
       omega (arith, z, r)
 
@@ -183,6 +175,6 @@ module _ (g : Geometry) (v : View) (phase number : ℕ) (good : SoundTable g v p
         other = t .other;
         place = λ d. t .place;
         agreed = agrees (homeOf g v Current (ownerOf g v b) b) (t .node);
-        drops = dropped-shared g v (homeOf g v Current (ownerOf g v b) b) b;
+        drops = drops-shared g v (homeOf g v Current (ownerOf g v b) b) b;
         apart = dropped-other g v (homeOf g v Current (ownerOf g v b) b) b some (t .place);
       }))

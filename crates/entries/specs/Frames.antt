@@ -57,10 +57,6 @@ ampleFor g b = ltb b (g .items) && leb (2 * g .items) (setFrames g)
 unfoldable pub halfFree : ℕ → Bool
 halfFree w = eqb (currentOf w) 0 || eqb (keptOf w) 0
 
--- a frame free for item b, whose entry has state word w
-unfoldable pub frameFreeBy : Geometry → View → ℕ → ℕ → ℕ → Bool
-frameFreeBy g v n b w = (ampleFor g b && halfFree w) || frameFree g v n b
-
 -- ---- laws
 
 pub set-there : (g : Geometry) (b : ℕ) → setOf g b < setsOf g
@@ -119,28 +115,19 @@ module _ (g : Geometry) (v : View) (n b : ℕ) where
       (omega (arith, frames-at-two (setOf g b) b, half-one (v .entry n b .state) h)) in
       lt-ltb _ (setFrames g) (omega (arith, less, twos, leb-true (2 * g .items) (setFrames g) (here .1)))
 
-  pub free-by : {w : ℕ} → w ≡ v .entry n b .state → frameFreeBy g v n b w ≡ frameFree g v n b
-  unfolding frameFreeBy
-  free-by {w} e = by-cases (ampleFor g b && halfFree w)
-      (λ t. let k = both (ampleFor g b) t in rw t (sym (ample-free (k .0) (rw (← e) (k .1)))))
-      (λ t. rw t refl)
-
 -- the ways of the code
 pub ample-read : (g : Geometry) (b : ℕ) {f : ℕ} → f ≡ setFrames g → (ltb b (g .items) && leb (2 * g .items) f) ≡ ampleFor g b
 unfolding ampleFor
 ample-read g b e = ap (λ f. ltb b (g .items) && leb (2 * g .items) f) e
 
-module _ (g : Geometry) (v : View) (n b w : ℕ) {a : Bool} {c k : ℕ} (p : a ≡ ampleFor g b) (q : c ≡ currentOf w) (r : k ≡ keptOf w) where
-  test : {t : Bool} → (a && (eqb c 0 || eqb k 0)) ≡ t → (ampleFor g b && halfFree w) ≡ t
+module _ (g : Geometry) (v : View) (n b : ℕ) where
+  pub free-told :
+      {a : Bool} {w c k : ℕ} → a ≡ ampleFor g b → w ≡ v .entry n b .state → c ≡ currentOf w → k ≡ keptOf w
+      → (a && (eqb c 0 || eqb k 0)) ≡ true → true ≡ frameFree g v n b
   unfolding halfFree
-  test e = rw (← p, ← q, ← r) e
+  free-told {a} p z q r e =
+      let t = both a e in
+      sym (ample-free g v n b (sym p ∙ t .0) (rw (← z, ← q, ← r) (t .1)))
 
-  pub free-told : (a && (eqb c 0 || eqb k 0)) ≡ true → true ≡ frameFreeBy g v n b w
-  unfolding frameFreeBy
-  free-told e = rw (test e) refl
-
-  pub free-counted :
-      (a && (eqb c 0 || eqb k 0)) ≡ false → {set u f : ℕ} → set ≡ setOf g b → u ≡ used g v n set → f ≡ setFrames g
-      → ltb u f ≡ frameFreeBy g v n b w
-  unfolding frameFreeBy
-  free-counted e x y z = rw (test e) (ap₂ ltb (y ∙ ap (used g v n) x) z)
+  pub free-counted : {set u f : ℕ} → set ≡ setOf g b → u ≡ used g v n set → f ≡ setFrames g → ltb u f ≡ frameFree g v n b
+  free-counted x y z = ap₂ ltb (y ∙ ap (used g v n) x) z

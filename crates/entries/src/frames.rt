@@ -2,7 +2,7 @@
 ghost use mathlib.Core.Path.{_≡_};
 ghost use Prim.Native.Nat.{_+_, _*_, _/_, _<_, _≤_};
 ghost use lib.ListN.{length};
-ghost use Rattle.entries.specs.Frames.{setsOf, setOf, setFrames, frameOf, framesIn, framesAt, used, framesFit, frameFree, ampleFor, frameFreeBy};
+ghost use Rattle.entries.specs.Frames.{setsOf, setOf, setFrames, frameOf, framesIn, framesAt, used, framesFit, frameFree, ampleFor};
 ghost use Rattle.entries.specs.RowFrames.{frameDigits, fourFrames, rowFrames};
 ghost use Rattle.table.specs.View.{view};
 use table::geometry::Geometry;
@@ -156,7 +156,7 @@ pub fn frames_fit(table: &[u64], g: Geometry, node: u8) -> bool
 }
 
 // Whether a node has a frame for both places of every item, and this is one of them.
-pub fn ample(g: Geometry, item: u16) -> bool
+fn ample(g: Geometry, item: u16) -> bool
     ensures { λ r. ⌜ r ≡ ampleFor g item ⌝ }
 {
     let items = g.items;
@@ -164,11 +164,12 @@ pub fn ample(g: Geometry, item: u16) -> bool
     (item < items) & (2 * (items as usize) <= frames)
 }
 
-// Whether a node has a frame free for an item whose entry has this state word: counted only where that does not tell.
-pub fn frame_free_by(table: &[u64], g: Geometry, node: u8, item: u16, state: u64) -> bool
-    ensures { λ r. ⌜ r ≡ frameFreeBy g (view g (now (table .entry))) node item state ⌝ }
+// Whether a node has a frame free for an item: counted only where frames are not ample, or both places of the item's entry are filled.
+pub fn frame_free(table: &[u64], g: Geometry, node: u8, item: u16) -> bool
+    ensures { λ r. ⌜ r ≡ frameFree g (view g (now (table .entry))) node item ⌝ }
 {
     let ample = ample(g, item);
+    let state = table::stores::state_at(table, g, node, item);
     let current = table::words::current_of(state);
     let kept = table::words::kept_of(state);
     let told = ample & ((current == 0) | (kept == 0));
@@ -179,12 +180,4 @@ pub fn frame_free_by(table: &[u64], g: Geometry, node: u8, item: u16, state: u64
     let used = used_in(table, g, node, set);
     let frames = set_frames(g);
     used < frames
-}
-
-// Whether a node has a frame free for an item.
-pub fn frame_free(table: &[u64], g: Geometry, node: u8, item: u16) -> bool
-    ensures { λ r. ⌜ r ≡ frameFree g (view g (now (table .entry))) node item ⌝ }
-{
-    let state = table::stores::state_at(table, g, node, item);
-    frame_free_by(table, g, node, item, state)
 }

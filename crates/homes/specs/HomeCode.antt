@@ -11,9 +11,9 @@ use Rattle.table.specs.declared.geometry.Geometry.{Geometry}
 use Rattle.table.specs.Words.{currentOf, keptOf, invalid, shared}
 use Rattle.table.specs.Stores.{Stored, StoredIn, entryStore, stateTo, valueTo, keptTo, stored-then, stored-two, stored-as}
 use Rattle.table.specs.View.{View}
-use Rattle.counting.specs.Tests.{by-cases, or-left, or-right}
+use Rattle.counting.specs.Tests.{by-cases}
 use Rattle.counting.specs.First.{first, first-turns, first-found}
-use Rattle.entries.specs.Frames.{frameFree, ampleFor, halfFree, frameFreeBy, ample-free, free-by, free-told}
+use Rattle.entries.specs.Frames.{frameFree}
 use Rattle.homes.specs.declared.places.Place.{Place}
 use Rattle.homes.specs.declared.places.Place.the-variants.{Current, Kept}
 use Rattle.homes.specs.declared.home.Arrival.{Arrival}
@@ -37,15 +37,6 @@ shared-none g v h b k l none = let e : b ≡ g .items = omega arith in sym (rw e
 
 -- ---- room
 
--- frames are ample, where a place of the entry is Invalid
-pub room-ample : (g : Geometry) (v : View) (h b : ℕ) {ample : Bool} → ample ≡ ampleFor g b → ample ≡ true → halfFree (v .entry h b .state) ≡ true → true ≡ hasRoom g v h b
-unfolding hasRoom
-room-ample g v h b p e k = sym (or-left _ (ample-free g v h b (sym p ∙ e) k))
-
-pub told-framed :
-    (g : Geometry) (v : View) (h b : ℕ) {framed : Bool} {w : ℕ} → framed ≡ frameFreeBy g v h b w → w ≡ v .entry h b .state → framed ≡ frameFree g v h b
-told-framed g v h b p e = p ∙ free-by g v h b e
-
 module _ (g : Geometry) (v : View) (h b : ℕ) {framed : Bool} (p : framed ≡ frameFree g v h b) where
   pub room-framed : framed ≡ true → true ≡ hasRoom g v h b
   unfolding hasRoom
@@ -63,12 +54,6 @@ module _ (g : Geometry) (v : View) (h b : ℕ) {framed : Bool} (p : framed ≡ f
   unfolding droppedItem
   drops-shared e q = rw (← p, e) q
 
--- frames are ample and a place of the entry is Invalid: nothing is dropped
-pub drops-none-told :
-    (g : Geometry) (v : View) (h b : ℕ) {a : Bool} {w c k : ℕ} → a ≡ ampleFor g b → w ≡ v .entry h b .state → c ≡ currentOf w → k ≡ keptOf w
-    → (a && (eqb c invalid || eqb k invalid)) ≡ true → g .items ≡ droppedItem g v h b
-drops-none-told g v h b {w = w} p e q r t = drops-none g v h b (told-framed g v h b (free-told g v h b w p q r t) e) refl
-
 -- ---- which node fits
 
 -- the two places in one
@@ -78,12 +63,6 @@ place-fits :
 unfolding placeFits
 place-fits g v Current b h = refl
 place-fits g v Kept b h = refl
-
--- a place that is Invalid leaves the entry at most one frame
-pub place-half : (place : Place) {w x code : ℕ} → w ≡ x → code ≡ codeOf place w → code ≡ invalid → halfFree x ≡ true
-unfolding halfFree
-place-half Current p q e = rw (← p, ← q, e) refl
-place-half Kept {w} p q e = rw (← p) (or-right (eqb (currentOf w) 0) (eq-eqb (keptOf w) 0 (sym q ∙ e)))
 
 module _ (g : Geometry) (v : View) (place : Place) (b h : ℕ) {w : ℕ} (p : w ≡ v .entry h b .state) {over : Bool} (q : over ≡ sharedIn place w) where
   pub place-over : over ≡ true → true ≡ placeFits g v place b h

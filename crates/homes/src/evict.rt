@@ -84,22 +84,6 @@ fn drop_shared(table: &mut [u64], left: u64, g: Geometry, place: Place, node: u8
     leave_source(table, left, g, place, node, item, word)
 }
 
-// What the home makes of the copy: where frames are ample it drops nothing, and none are counted.
-fn arrival_of(table: &[u64], g: Geometry, place: Place, h: u8, item: u16) -> Arrival
-    ensures { λ r. ⌜ r ≡ arrivalOf g (view g (now (table .entry))) place h item ⌝ }
-{
-    let ample = entries::frames::ample(g, item);
-    let state = table::stores::state_at(table, g, h, item);
-    let current = table::words::current_of(state);
-    let kept = table::words::kept_of(state);
-    let told = ample & ((current == INVALID) | (kept == INVALID));
-    if told {
-        let none = g.items;
-        return crate::home::arrival_by(table, g, place, h, item, state, none);
-    }
-    crate::home::arrival_at(table, g, place, h, item)
-}
-
 // A copy goes home, then the source's state. All is chosen before the first store.
 fn move_copy(
     table: &mut [u64],
@@ -115,7 +99,7 @@ fn move_copy(
     let state = table::stores::state_at(table, g, node, item);
     let code = crate::places::code_of(place, state);
     let value = crate::places::value_in(table, g, place, node, item);
-    let a = arrival_of(table, g, place, home, item);
+    let a = crate::home::arrival_at(table, g, place, home, item);
     let left = crate::home::home_stores(table, left, g, place, home, item, code, value, a);
     leave_source(table, left, g, place, node, item, state)
 }

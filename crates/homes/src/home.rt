@@ -1,10 +1,8 @@
 // The home of a copy that leaves a node, and what is stored there.
 ghost use mathlib.Core.Path.{_≡_};
-ghost use mathlib.Core.Bool.{true};
 ghost use Prim.Native.Nat.{_<_};
 ghost use Rattle.table.specs.Stores.{Stored, StoredIn};
 ghost use Rattle.table.specs.View.{view};
-ghost use Rattle.entries.specs.Frames.{halfFree};
 ghost use Rattle.homes.specs.Home.{sharedItem, hasRoom, placeFits, fits, droppedItem, currentLeft, arrivalOf, dropStores, arrivalChanges, homeStoresBy};
 ghost use Rattle.homes.specs.HomeCode.{nextNode, HomeFound};
 use crate::places::Place;
@@ -39,15 +37,10 @@ fn shared_item(table: &[u64], g: Geometry, h: u8) -> u16
     items
 }
 
-// Whether a node has a frame free for an item, or a Shared copy to drop; asked where a place of its entry is Invalid.
+// Whether a node has a frame free for an item, or a Shared copy to drop.
 fn has_room(table: &[u64], g: Geometry, h: u8, item: u16) -> bool
-    requires { ⌜ halfFree (view g (now table) .entry h item .state) ≡ true ⌝ }
     ensures { λ r. ⌜ r ≡ hasRoom g (view g (now (table .entry))) h item ⌝ }
 {
-    let ample = entries::frames::ample(g, item);
-    if ample {
-        return true;
-    }
     let framed = entries::frames::frame_free(table, g, h, item);
     if framed {
         return true;
@@ -117,12 +110,11 @@ pub fn home_of(table: &[u64], g: Geometry, place: Place, node: u8, item: u16) ->
     h
 }
 
-// The item whose Shared copy a home drops, or the number of items if it has a frame; `state` is the state word of its entry.
-fn dropped_item(table: &[u64], g: Geometry, h: u8, item: u16, state: u64) -> u16
-    requires { ⌜ state ≡ view g (now table) .entry h item .state ⌝ }
+// The item whose Shared copy a home drops, or the number of items if it has a frame.
+fn dropped_item(table: &[u64], g: Geometry, h: u8, item: u16) -> u16
     ensures { λ r. ⌜ r ≡ droppedItem g (view g (now (table .entry))) h item ⌝ }
 {
-    let framed = entries::frames::frame_free_by(table, g, h, item, state);
+    let framed = entries::frames::frame_free(table, g, h, item);
     if framed {
         return g.items;
     }
@@ -139,20 +131,13 @@ fn current_left(current: u8, dropped: u16, item: u16) -> u8
     current
 }
 
-// What a home makes of a copy that comes, by the state word of its entry and the item that it drops.
-pub(crate) fn arrival_by(
-    table: &[u64],
-    g: Geometry,
-    place: Place,
-    h: u8,
-    item: u16,
-    state: u64,
-    dropped: u16,
-) -> Arrival
-    requires { ⌜ (state ≡ view g (now table) .entry h item .state) × (dropped ≡ droppedItem g (view g (now table)) h item) ⌝ }
+// What a home makes of a copy that comes.
+pub fn arrival_at(table: &[u64], g: Geometry, place: Place, h: u8, item: u16) -> Arrival
     ensures { λ r. ⌜ r ≡ arrivalOf g (view g (now (table .entry))) place h item ⌝ }
 {
+    let state = table::stores::state_at(table, g, h, item);
     let takeover = crate::places::shared_in(place, state);
+    let dropped = dropped_item(table, g, h, item);
     let items = g.items;
     let drops = dropped < items;
     let beside = table::stores::state_at(table, g, h, dropped);
@@ -166,15 +151,6 @@ pub(crate) fn arrival_by(
         current,
         kept,
     }
-}
-
-// What a home makes of a copy that comes.
-pub fn arrival_at(table: &[u64], g: Geometry, place: Place, h: u8, item: u16) -> Arrival
-    ensures { λ r. ⌜ r ≡ arrivalOf g (view g (now (table .entry))) place h item ⌝ }
-{
-    let state = table::stores::state_at(table, g, h, item);
-    let dropped = dropped_item(table, g, h, item, state);
-    arrival_by(table, g, place, h, item, state, dropped)
 }
 
 // The Shared copy that a home drops, if it drops one.

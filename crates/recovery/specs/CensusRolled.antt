@@ -18,7 +18,7 @@ use Rattle.table.specs.Changes.{checkpointOf}
 use Rattle.table.specs.Stores.{entryStore}
 use Rattle.table.specs.View.{Entry, View, live, current, updates}
 use Rattle.table.specs.Copies.{copyNumber}
-use Rattle.table.specs.Pass.{Each}
+use Rattle.table.specs.Pass.{Each, columns-within}
 use Rattle.entries.specs.Frames.{framesIn, used, frames-here}
 use Rattle.entries.specs.Tally.{has}
 use Rattle.homes.specs.Kept.{Live, test-live}
@@ -32,7 +32,6 @@ use Rattle.recovery.specs.Tallies.{copyWeight, nodesOf, tallyOf, Tallied
 use Rattle.recovery.specs.NumberingCode.{Unkept}
 use Rattle.recovery.specs.Census.{sideWeight, heldOn}
 use Rattle.recovery.specs.RollingCode.{runs-empty}
-use Rattle.recovery.specs.RecoverStages.{column-within}
 use Rattle.recovery.specs.PartnersCounts.{AgreesTo}
 use Rattle.recovery.specs.Ready.{PlainEntry}
 use Rattle.recovery.specs.PlainSides.{plain-number}
@@ -121,7 +120,7 @@ pub plain-numbers :
 unfolding numberStores
 plain-numbers g u s small t k all =
     runs-empty (g .items * g .nodes) _
-    (λ d h. let (l, hb) = column-within g d h in
+    (λ d h. let (l, hb) = columns-within (g .nodes) (g .items) d h in
     let n = d % g .nodes in
     let b = d / g .nodes in
     ap (map (entryStore n b)) (plain-nothing g u b small (t b hb) n l (k n b l hb) (every-at (g .items) _ all b hb)))

@@ -37,13 +37,10 @@ entered-roll g w =
     (g .nodes * g .items) (grid-within g)
 
 -- "items ascending, then node"
-pub column-within : (g : Geometry) (k : ℕ) → k < g .items * g .nodes → (k % g .nodes < g .nodes) × (k / g .nodes < g .items)
-column-within g = columns-within (g .nodes) (g .items)
-
 pub entered-number : (g : Geometry) (w : View) → All (Entered g) (numberStores g w)
 unfolding numberStores
 entered-number g w =
-    entered-pass g (λ k. k % g .nodes) (λ k. k / g .nodes) (λ k. numberChange g w (k % g .nodes) (k / g .nodes)) (g .items * g .nodes) (column-within g)
+    entered-pass g (λ k. k % g .nodes) (λ k. k / g .nodes) (λ k. numberChange g w (k % g .nodes) (k / g .nodes)) (g .items * g .nodes) (columns-within (g .nodes) (g .items))
 
 -- ---- one stage, then the others
 

@@ -1,16 +1,11 @@
 -- `place_fits` meets its contract: taken over, Invalid with room, or neither. Assumes nothing.
-use Rattle.homes.specs.HomeCode.{place-over, place-half, place-free, place-taken}
+use Rattle.homes.specs.HomeCode.{place-over, place-free, place-taken}
 use borrow.Author.Needs.{needs}
 use Rattle.homes.proofs.home.place_fits.Statement.{statement}
 use Rattle.homes.proofs.home.place_fits.Tie as tie
 
 returns : tie.Need-returns
 returns c = place-over _ _ _ _ _ (c .before .before .state-at .ensures) (c .before .shared-in .ensures) (c .if1 .taken)
-
-has-room-requires : tie.Need-has-room-requires
-has-room-requires c κs =
-    let s = c .before .before .before .before in
-    place-half (s .before .before .args .place) (s .state-at .ensures) (c .before .code-of .ensures) (c .if2 .taken)
 
 returns-2 : tie.Need-returns-2
 returns-2 c =
@@ -30,6 +25,6 @@ place-fits-spec =
     (λ c κs. search needs)
     returns
     (λ c κs. search needs)
-    has-room-requires
+    (λ c κs. search needs)
     returns-2
     returns-3)
