@@ -4,8 +4,7 @@ use mathlib.Core.Path.{_≡_, refl}
 use mathlib.Core.Bool.{Bool, true, false, cond, _&&_, not}
 use native.Mathlib.Omega.{arith}
 use lib.Dec.{leb, eqb}
-use borrow.Author.Tests.{leb-true, leb-false, eqb-false, lt-ltb, le-ltb}
-use Rattle.counting.specs.Tests.{by-cases}
+use borrow.Author.Tests.{leb-false, eqb-false, ltb-true}
 use Rattle.table.specs.declared.geometry.Geometry.{Geometry}
 use Rattle.table.specs.declared.answers.Refusal.{Refusal}
 use Rattle.table.specs.declared.answers.Refusal.the-variants.{NoNode, NoItem, DeadNode, CheckpointOpen, NoFrame}
@@ -25,7 +24,7 @@ admissionOf g v n b =
 
 -- "9 frame needed and none free": in the set of the item
 unfoldable pub frameFull : Geometry → View → ℕ → ℕ → Bool → Bool
-frameFull g v n b needed = needed && leb (setFrames g) (used g v n (setOf g b))
+frameFull g v n b needed = needed && not (frameFree g v n b)
 
 unfoldable pub frameAdmission : Geometry → View → ℕ → ℕ → Bool → Admission → Admission
 frameAdmission g v n b needed (Turned x) = Turned x
@@ -62,15 +61,15 @@ pub frame-admits :
 unfolding frameAdmission frameFull
 frame-admits g v n b needed e = go (admissionOf g v n b) refl e
   where
-    room : (p q : Bool) → leb (setFrames g) (used g v n (setOf g b)) ≡ q → cond (p && q) (Turned NoFrame) Admitted ≡ Admitted → p ≡ true
+    room : (p q : Bool) → frameFree g v n b ≡ q → cond (p && not q) (Turned NoFrame) Admitted ≡ Admitted → p ≡ true
         → used g v n (setOf g b) < setFrames g
-    room true true h e f = let z : _≡_ {A = ℕ} 0 1 = cc in absurd (omega arith)
-    room true false h e f = leb-false (setFrames g) (used g v n (setOf g b)) h
+    room true true h e f = ltb-true (used g v n (setOf g b)) (setFrames g) h
+    room true false h e f = let z : _≡_ {A = ℕ} 0 1 = cc in absurd (omega arith)
     room false q h e f = let z : _≡_ {A = ℕ} 0 1 = cc in absurd (omega arith)
 
     go : (a : Admission) → admissionOf g v n b ≡ a → frameAdmission g v n b needed a ≡ Admitted → FrameAdmits g v n b needed
     go (Turned r) h e = let z : _≡_ {A = ℕ} 0 1 = cc in absurd (omega arith)
-    go Admitted h e = record { place = admission-tells g v n b h; room = room needed (leb (setFrames g) (used g v n (setOf g b))) refl e }
+    go Admitted h e = record { place = admission-tells g v n b h; room = room needed (frameFree g v n b) refl e }
 
 -- ---- the ways of the code
 
@@ -95,6 +94,4 @@ module _ (g : Geometry) (v : View) (n b : ℕ) {needed : Bool} where
 
   pub frame-asked : needed ≡ true → {free : Bool} → free ≡ frameFree g v n b → not free ≡ frameFull g v n b needed
   unfolding frameFull
-  frame-asked h p = rw (h, p) (by-cases (leb (setFrames g) (used g v n (setOf g b)))
-      (λ e. rw (e, le-ltb _ _ (leb-true _ _ e)) refl)
-      (λ e. rw (e, lt-ltb _ _ (leb-false _ _ e)) refl))
+  frame-asked h p = rw (h, p) refl
