@@ -16,13 +16,13 @@ use Rattle.table.specs.Stores.{Store}
 use Rattle.table.specs.View.{View, live, current}
 use Rattle.table.specs.Via.{Via}
 use Rattle.table.specs.Answers.{refuse, nothingLeft, carry}
-use Rattle.entries.specs.Frames.{frameFree}
 use Rattle.entries.specs.Kinds.{Kind, clean, dirty, created, copy-at}
 use Rattle.entries.specs.SoundFacts.{SoundTable}
 use Rattle.homes.specs.declared.places.Place.the-variants.{Current}
 use Rattle.entries.specs.Dirty.{owns, ownsAt, ownerOf, dirtyItem}
-use Rattle.homes.specs.Home.{sharedItem, sharedAt, hasRoom, placeFits, fits, homeOf, droppedItem}
+use Rattle.homes.specs.Home.{hasRoom, placeFits, fits, homeOf, droppedItem}
 use Rattle.homes.specs.HomeLaws.{home-fits}
+use Rattle.homes.specs.EvictLeaves.{drops-shared}
 use Rattle.checkpoints.specs.Create.{sharesAt, sharerOf, hasSharer, partnerStores, createItem, createStores, noPartner, createPlan}
 use Rattle.checkpoints.specs.CreateCode.{next-owned}
 use Rattle.homes.specs.Kept.{Live, Kept, live-test, test-live}
