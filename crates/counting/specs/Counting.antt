@@ -264,15 +264,6 @@ only-same n p q m h o = record { within = o .within; holds = sym (h m (o .within
 
 -- ---- one place is changed
 
-pub count-change :
-    (n : ℕ) (p q : ℕ → Bool) (k : ℕ) → k < n → ((m : ℕ) → (m ≡ k → ⊥) → q m ≡ p m) → count q n + one (p k) ≡ count p n + one (q k)
-unfolding count
-count-change zero p q k h same = absurd (omega arith)
-count-change (suc n) p q k h same = elim (ℕ-discrete k n) [
-  | yes e ↦ (let r = count-ext n q p (λ m l. same m (λ d. omega arith)) in omega (arith, ap (λ x. one (p x)) e, ap (λ x. one (q x)) e))
-  | no e ↦ omega (arith, count-change n p q k (omega arith) same, ap one (same n (λ d. e (sym d))))
-]
-
 pub sum-change :
     (n : ℕ) (f h : ℕ → ℕ) (k : ℕ) → k < n → ((m : ℕ) → (m ≡ k → ⊥) → h m ≡ f m) → sum h n + f k ≡ sum f n + h k
 unfolding sum

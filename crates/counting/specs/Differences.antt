@@ -1,10 +1,10 @@
 -- Words that should be equal, compared without a test for each: the bits in which two differ, gathered over many.
-use Prim.Native.Nat.{ℕ, _≤_}
+use Prim.Native.Nat.{ℕ}
 use mathlib.Core.Path.{_≡_}
 use mathlib.Core.Bool.{_&&_}
 use native.Mathlib.Omega.{arith}
 use lib.Dec.{eqb}
-use lib.Bits.{bitAnd, bitOr, bitXor, and-le-l, and-le-r, or-add-and, xor-add-and, or-self, xor-self}
+use lib.Bits.{bitOr, bitXor, and-le-l, and-le-r, or-add-and, xor-add-and, or-self, xor-self}
 use borrow.Author.Tests.{eq-eqb, eqb-true}
 use Rattle.counting.specs.Tests.{bool-iff, both, and-both}
 

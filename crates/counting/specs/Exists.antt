@@ -1,6 +1,6 @@
 -- Whether a test holds of one of 0, 1, .. and n − 1.
 use Prim.Native.Nat.{ℕ, zero, suc, _+_, _≤_, _<_}
-use mathlib.Core.Path.{_≡_, refl, ap, ap₂, _∙_}
+use mathlib.Core.Path.{_≡_, refl, ap, _∙_}
 use mathlib.Core.Bool.{Bool, true, false, _||_}
 use native.Mathlib.Omega.{arith}
 use native.Mathlib.Numerals.{add-one}
@@ -46,8 +46,3 @@ exists-not (suc n) p h = rw (exists-not n p (λ m l. h m (omega arith)), h n (om
 
 pub not-exists : (n : ℕ) (p : ℕ → Bool) → exists p n ≡ false → (m : ℕ) → m < n → p m ≡ false
 not-exists n p h m l = by-cases (p m) (λ e. absurd (no-both (exists-here n p m l e) h)) (λ e. e)
-
-pub exists-ext : (n : ℕ) (p q : ℕ → Bool) → ((m : ℕ) → m < n → p m ≡ q m) → exists p n ≡ exists q n
-unfolding exists
-exists-ext zero p q h = refl
-exists-ext (suc n) p q h = ap₂ _||_ (exists-ext n p q (λ m l. h m (omega arith))) (h n (omega arith))

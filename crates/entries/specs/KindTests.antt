@@ -6,13 +6,13 @@ use native.Mathlib.Omega.{arith}
 use lib.Dec.{eqb}
 use borrow.Author.Tests.{eq-eqb}
 use Rattle.table.specs.Words.{shared, owner, modified, sharedCK1, sharedCK2, precommit1, precommit2, invCK1, invCK2}
-use Rattle.counting.specs.Tests.{no-both, both, and-both, or-left, or-right}
-use Rattle.table.specs.View.{View, live, current}
+use Rattle.counting.specs.Tests.{and-both, or-left, or-right}
+use Rattle.table.specs.View.{View, current}
 use Rattle.counting.specs.Counting.{count, Only, only-counts}
 use Rattle.counting.specs.Values.{equal-values, unseen-values}
 use Rattle.entries.specs.Tally.{Counts, has, hasKept, copy, keep, countsOf}
 use Rattle.entries.specs.Items.{isClean, isOwned, isSaved, isDirty, isCreated, itemTest}
-use Rattle.entries.specs.Kinds.{cleanCode, ownerCode, createdCode, Clean, Saved, Owned, modified-at, owner-at, Dirty, Created, Kind, clean, dirty, created, has-copy, has-code, hasKept-code, keep-at}
+use Rattle.entries.specs.Kinds.{cleanCode, ownerCode, createdCode, Clean, Saved, Owned, modified-at, owner-at, Dirty, Created, Kind, clean, dirty, created, has-code}
 use Rattle.entries.specs.Codes.{two-codes, three-codes, all-codes}
 
 module _ (v : View) (N b : ℕ) where
@@ -71,21 +71,3 @@ module _ (v : View) (N b : ℕ) where
   kind-test phase (clean k) = or-left _ (clean-test k)
   kind-test phase (dirty k) = or-right (isClean s) (or-left _ (dirty-test k))
   kind-test phase (created e k) = or-right (isClean s) (or-right (isDirty s) (and-both (eq-eqb phase 1 e) (created-test k)))
-
--- ---- no item is of two kinds
-
-module _ (v : View) (N b : ℕ) where
-  pub clean-not-saved : Clean v N b → Saved v N b → ⊥
-  clean-not-saved k s =
-      let h = s .first in
-      no-both (keep-at v b (s .one) (both (live v (s .one)) (h .holds) .0) (λ z. omega (arith, hasKept-code v b (s .one) invCK1 (h .holds)))) (k .nothing (s .one) (h .within))
-
-  pub dirty-not-created : Dirty v N b → Created v N b → ⊥
-  dirty-not-created d k =
-      let h = k .first in
-      let c : current (v .entry (k .one) b) ≡ precommit1 = has-code v b (k .one) precommit1 (h .holds) in
-      go (d .owned) c (has-copy v b (k .one) precommit1 (λ z. omega arith) (h .holds))
-    where
-      go : Owned v N b (d .node) → current (v .entry (k .one) b) ≡ precommit1 → copy v b (k .one) ≡ true → ⊥
-      go (modified-at o f) c t = omega (arith, c, ap (λ n. current (v .entry n b)) (f (k .one) (k .first .within) t), has-code v b (d .node) modified (o .holds))
-      go (owner-at o f) c t = no-both (f (k .one) (k .first .within) t) (ap ownerCode c)

@@ -97,12 +97,6 @@ module _ (v : View) (b n : ℕ) where
   pub has-copy : (code : ℕ) → code ≢ 0 → has v b code n ≡ true → copy v b n ≡ true
   has-copy code d h = copy-at (both (live v n) h .0) (λ z. d (sym (has-code code h) ∙ z))
 
-  pub hasKept-code : (code : ℕ) → hasKept v b code n ≡ true → kept (v .entry n b) ≡ code
-  hasKept-code code h = eqb-true (kept (v .entry n b)) code (both (live v n) h .1)
-
-  pub hasKept-at : (code : ℕ) → live v n ≡ true → kept (v .entry n b) ≡ code → hasKept v b code n ≡ true
-  hasKept-at code l e = and-both l (eq-eqb (kept (v .entry n b)) code e)
-
   pub keep-at : live v n ≡ true → kept (v .entry n b) ≢ 0 → keep v b n ≡ true
   keep-at l d = and-both l (ap not (ne-eqb (kept (v .entry n b)) 0 d))
 
@@ -118,15 +112,9 @@ module _ (v : View) (N b m n : ℕ) where
   pub has-apart : (i j : ℕ) → i ≢ j → Only N (has v b i) m → Only N (has v b j) n → m ≢ n
   has-apart i j d p q e = d (sym (has-code v b m i (p .holds)) ∙ ap (λ k. current (v .entry k b)) e ∙ has-code v b n j (q .holds))
 
-  pub kept-apart : (i j : ℕ) → i ≢ j → Only N (hasKept v b i) m → Only N (hasKept v b j) n → m ≢ n
-  kept-apart i j d p q e = d (sym (hasKept-code v b m i (p .holds)) ∙ ap (λ k. kept (v .entry k b)) e ∙ hasKept-code v b n j (q .holds))
-
 module _ (v : View) (N b : ℕ) where
   pub clean-apart : (k : Clean v N b) → k .one ≢ k .two
   clean-apart k = has-apart v N b _ _ sharedCK1 sharedCK2 (λ z. omega arith) (k .first) (k .second)
-
-  pub saved-apart : (k : Saved v N b) → k .one ≢ k .two
-  saved-apart k = kept-apart v N b _ _ invCK1 invCK2 (λ z. omega arith) (k .first) (k .second)
 
   pub created-apart : (k : Created v N b) → k .one ≢ k .two
   created-apart k = has-apart v N b _ _ precommit1 precommit2 (λ z. omega arith) (k .first) (k .second)

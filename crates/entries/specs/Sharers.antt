@@ -125,11 +125,6 @@ module _ (v w : View) (N b : ℕ) (s : Steady v w N b) where
       nothing = λ n l. same-keep n l ∙ k .nothing n l;
     }
 
-    -- beside an Owner; beside a Modified no copy may come
-    pub owner-come :
-        (m : ℕ) → Only N (has v b owner) m → ((n : ℕ) → n < N → copy v b n ≡ true → ownerCode (current (v .entry n b)) ≡ true) → Owned w N b m
-    owner-come m o h = owner-at (only-has owner m (omega arith) o) (codes-come ownerCode refl h)
-
 -- ---- one entry
 
 -- at n, or elsewhere

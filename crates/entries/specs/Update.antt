@@ -2,43 +2,19 @@
 use mathlib.Core.Path.{_≡_, refl, sym, ap, ap₂, _∙_}
 use mathlib.Core.Logic.{_≢_}
 use mathlib.Core.Bool.{Bool, true, false, not, _&&_}
-use Prim.Native.Nat.{ℕ, _+_, _<_}
-use native.Mathlib.Omega.{arith}
+use Prim.Native.Nat.{ℕ, _<_}
 use native.Mathlib.Decide.{ℕ-discrete}
 use lib.Dec.{eqb}
 use borrow.Author.Tests.{eq-eqb, ne-eqb}
-use Rattle.table.specs.Words.{owner, modified}
-use Rattle.counting.specs.Tests.{and-both, or-left}
-use Rattle.table.specs.View.{View, live, current, kept}
-use Rattle.counting.specs.Counting.{count, one, count-change, Only, only-same}
-use Rattle.entries.specs.Tally.{has, hasKept, copy}
-use Rattle.entries.specs.Kinds.{Owned, owner-at, has-live, has-copy}
+use Rattle.counting.specs.Tests.{and-both}
+use Rattle.table.specs.View.{View, live, current}
+use Rattle.counting.specs.Counting.{Only, only-same}
+use Rattle.entries.specs.Tally.{has}
 
 -- the marks are the same, and item b is the same on every node but n
 pub record Elsewhere (v w : View) (n b : ℕ) : Type 0 where
   pub mark : (m : ℕ) → w .mark m ≡ v .mark m
   pub entry : (m : ℕ) → m ≢ n → w .entry m b ≡ v .entry m b
-
--- ---- the counts: the old code loses one, the new code gains one
-
-module _ (v w : View) (N n b : ℕ) (e : Elsewhere v w n b) (h : n < N) (l : live v n ≡ true) where
-  same-live : (m : ℕ) → live w m ≡ live v m
-  same-live m = ap (λ x. not (eqb x 0)) (e .mark m)
-
-  pub current-counts : (code : ℕ) → count (has w b code) N + one (eqb (current (v .entry n b)) code) ≡ count (has v b code) N + one (eqb (current (w .entry n b)) code)
-  current-counts code =
-      let c = count-change N (has v b code) (has w b code) n h (λ m d. ap₂ _&&_ (same-live m) (ap (λ x. eqb (current x) code) (e .entry m d))) in
-      rw (l, same-live n, l) at c
-
-  pub kept-counts : (code : ℕ) → count (hasKept w b code) N + one (eqb (kept (v .entry n b)) code) ≡ count (hasKept v b code) N + one (eqb (kept (w .entry n b)) code)
-  kept-counts code =
-      let c = count-change N (hasKept v b code) (hasKept w b code) n h (λ m d. ap₂ _&&_ (same-live m) (ap (λ x. eqb (kept x) code) (e .entry m d))) in
-      rw (l, same-live n, l) at c
-
-  pub copy-counts : count (copy w b) N + one (not (eqb (current (v .entry n b)) 0)) ≡ count (copy v b) N + one (not (eqb (current (w .entry n b)) 0))
-  copy-counts =
-      let c = count-change N (copy v b) (copy w b) n h (λ m d. ap₂ _&&_ (same-live m) (ap (λ x. not (eqb (current x) 0)) (e .entry m d))) in
-      rw (l, same-live n, l) at c
 
 -- ---- the only node with a code: what a change of code at node n does to it
 
@@ -70,15 +46,3 @@ module _ (v w : View) (N n b : ℕ) (e : Elsewhere v w n b) where
 
       at-n′ : has w b code n ≡ false
       at-n′ = never (live w n) _ (ne-eqb (current (w .entry n b)) code q)
-
--- ---- "a Modified owner turns Owner"
-
-pub modified-turns-owner :
-    (v w : View) (N n b : ℕ) → Elsewhere v w n b → current (w .entry n b) ≡ owner → Only N (has v b modified) n
-    → ((m : ℕ) → m < N → copy v b m ≡ true → m ≡ n) → Owned w N b n
-modified-turns-owner v w N n b e c o alone = owner-at
-    (only-gains v w N n b e owner (o .within) (has-live v b n modified (o .holds)) c (λ m l t. alone m l (has-copy v b m owner (λ z. omega arith) t)))
-    (λ m l t. elim (ℕ-discrete m n) [
-      | yes d ↦ or-left _ (eq-eqb (current (w .entry m b)) owner (ap (λ k. current (w .entry k b)) d ∙ c))
-      | no d ↦ absurd (d (alone m l (ap₂ _&&_ (ap (λ x. not (eqb x 0)) (sym (e .mark m))) (ap (λ x. not (eqb (current x) 0)) (sym (e .entry m d))) ∙ t)))
-    ])

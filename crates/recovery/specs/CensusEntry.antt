@@ -3,20 +3,20 @@ use Prim.Native.Nat.{ℕ, _+_, _*_, _/_, _%_, _^_, _≤_, _<_}
 use mathlib.Core.Path.{_≡_, refl, sym, ap, _∙_}
 use mathlib.Core.Logic.{_≢_}
 use mathlib.Core.Bool.{Bool, true, false, cond, not, _&&_, _||_}
-use mathlib.Core.List.{List, [], _∷_}
+use mathlib.Core.List.{List}
 use native.Mathlib.Omega.{arith}
 use native.Mathlib.Decide.{ℕ-discrete}
 use lib.Bits.{bitXor}
 use lib.Dec.{eqb}
 use lib.ListN.{getD, set}
-use borrow.Author.Tests.{eqb-true, eq-eqb, ne-eqb}
+use borrow.Author.Tests.{eq-eqb, ne-eqb}
 use Rattle.counting.specs.Tests.{by-cases, no-both}
 use Rattle.counting.specs.Differences.{none-differ}
 use Rattle.counting.specs.Counting.{every, every-at, one}
 use Rattle.table.specs.Geometry.{product}
 use Rattle.table.specs.Words.{currentOf, keptOf}
 use Rattle.table.specs.View.{Entry, current, kept}
-use Rattle.table.specs.Copies.{backBy, copyNumber, copyValue, back-number, back-value}
+use Rattle.table.specs.Copies.{copyNumber, copyValue, back-number, back-value}
 use Rattle.entries.specs.Frames.{frameOf, framesIn, frame-le, frames-two}
 use Rattle.entries.specs.Row.{topOf, quarter}
 use Rattle.entries.specs.Survey.{codesForm}

@@ -1,5 +1,5 @@
 -- Recover's stages one after the other, as code makes them on the table as it stands: the stores of the whole call, cut anywhere.
-use Prim.Native.Nat.{ℕ, zero, suc, _-_, _*_, _/_, _%_, _≤_, _<_}
+use Prim.Native.Nat.{ℕ, zero, suc, _-_, _*_, _/_, _%_, _≤_}
 use mathlib.Core.Path.{_≡_, refl, sym, ap, _∙_, fun-ext}
 use mathlib.Core.Bool.{Bool, false}
 use mathlib.Core.List.{List}

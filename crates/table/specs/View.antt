@@ -101,10 +101,6 @@ module _ (g : Geometry) (t : List ℕ) (n : ℕ) where
   unfolding view
   entry-read b h = rw h
 
-  pub entry-none : (b : ℕ) → there g n b ≡ false → view g t .entry n b ≡ blank
-  unfolding view
-  entry-none b h = rw h
-
   -- a field that is word k of each entry, and 0 of the blank one
   word-field :
       (b k : ℕ) (f : Entry → ℕ) → ((at : ℕ) → f (entryIn t at) ≡ getD t (at + k) 0) → f blank ≡ 0 → entryWord g t n b k ≡ f (view g t .entry n b)
