@@ -1,11 +1,12 @@
 -- Tests, sums and counts over 0, 1, .. and n − 1: the nodes or the items.
 use mathlib.Core.Path.{_≡_, refl, sym, ap, ap₂, _∙_}
 use mathlib.Core.Bool.{Bool, true, false, _&&_, _||_}
-use Prim.Native.Nat.{ℕ, zero, suc, _+_, _≤_, _<_}
+use Prim.Native.Nat.{ℕ, zero, suc, _+_, _*_, _≤_, _<_}
 use native.Mathlib.Omega.{arith}
 use native.Mathlib.Numerals.{add-one}
 use native.Mathlib.Decide.{ℕ-discrete}
-use Rattle.counting.specs.Tests.{both, and-both, no-both, by-cases}
+use mir.Val.{boolByte}
+use Rattle.counting.specs.Tests.{both, and-both, and-mixed, no-both, by-cases}
 
 -- the test holds of each
 unfoldable pub every : (ℕ → Bool) → ℕ → Bool
@@ -91,6 +92,11 @@ unfolding every
 every-ext zero p q h = refl
 every-ext (suc n) p q h = ap₂ _&&_ (every-ext n p q (λ m l. h m (omega arith))) (h n (omega arith))
 
+pub every-and : (p q : ℕ → Bool) (n : ℕ) → (every p n && every q n) ≡ every (λ m. p m && q m) n
+unfolding every
+every-and p q zero = refl
+every-and p q (suc n) = and-mixed (every p n) (p n) (every q n) (q n) ∙ ap (λ x. x && (p n && q n)) (every-and p q n)
+
 pub sum-ext : (n : ℕ) (f g : ℕ → ℕ) → ((m : ℕ) → m < n → f m ≡ g m) → sum f n ≡ sum g n
 unfolding sum
 sum-ext zero f g h = refl
@@ -130,15 +136,21 @@ unfolding sum
 sum-plus f h zero = refl
 sum-plus f h (suc n) = omega (arith, sum-plus f h n)
 
-sum-nothing : (n : ℕ) → sum (λ i. 0) n ≡ 0
+pub sum-times : (c : ℕ) (f : ℕ → ℕ) (n : ℕ) → sum (λ i. c * f i) n ≡ c * sum f n
 unfolding sum
-sum-nothing zero = refl
-sum-nothing (suc n) = omega (arith, sum-nothing n)
+sum-times c f zero = omega arith
+sum-times c f (suc n) = omega (arith, sum-times c f n)
+
+-- c each
+pub sum-each : (c n : ℕ) → sum (λ i. c) n ≡ n * c
+unfolding sum
+sum-each c zero = omega arith
+sum-each c (suc n) = omega (arith, sum-each c n)
 
 -- two sums, either one first
 pub sum-swap : (f : ℕ → ℕ → ℕ) (n m : ℕ) → sum (λ i. sum (f i) m) n ≡ sum (λ j. sum (λ i. f i j) n) m
 unfolding sum
-sum-swap f zero m = sym (sum-nothing m)
+sum-swap f zero m = omega (arith, sum-each 0 m)
 sum-swap f (suc n) m = omega (arith, sum-swap f n m, sum-plus (λ j. sum (λ i. f i j) n) (f n) m)
 
 pub sum-count : (p : ℕ → Bool) (n : ℕ) → sum (λ i. one (p i)) n ≡ count p n
@@ -148,14 +160,32 @@ sum-count p (suc n) = omega (arith, sum-count p n)
 
 -- ---- counts
 
-one-le : (b : Bool) → one b ≤ 1
+pub one-le : (b : Bool) → one b ≤ 1
 one-le true = omega arith
 one-le false = omega arith
+
+-- tests that count the same are the same
+pub one-same : (a b : Bool) → one a ≡ one b → a ≡ b
+one-same true true e = refl
+one-same true false e = absurd (omega arith)
+one-same false true e = absurd (omega arith)
+one-same false false e = refl
+
+-- a test as the code counts it
+pub bit-counted : (q : Bool) → Counted q (boolByte q)
+bit-counted true = record { is = refl; small = omega arith }
+bit-counted false = record { is = refl; small = omega arith }
 
 pub count-le : (n : ℕ) (p : ℕ → Bool) → count p n ≤ n
 unfolding count
 count-le zero p = omega arith
 count-le (suc n) p = omega (arith, count-le n p, one-le (p n))
+
+-- more numbers, no fewer that pass
+pub count-up : (m : ℕ) (p : ℕ → Bool) (n : ℕ) → n ≤ m → count p n ≤ count p m
+unfolding count
+count-up zero p n h = omega (arith, ap (count p) (let e : n ≡ 0 = omega arith in e))
+count-up (suc m) p n h = elim (ℕ-discrete n (suc m)) [ yes e ↦ omega (arith, ap (count p) e) | no e ↦ omega (arith, count-up m p n (omega arith)) ]
 
 pub count-ext : (n : ℕ) (p q : ℕ → Bool) → ((m : ℕ) → m < n → p m ≡ q m) → count p n ≡ count q n
 unfolding count

@@ -6,7 +6,7 @@ use mathlib.Core.Bool.{Bool, true}
 use native.Mathlib.Omega.{arith}
 use native.Mathlib.Decide.{ℕ-discrete}
 use Rattle.counting.specs.Tests.{by-cases}
-use Rattle.counting.specs.Counting.{one, sum, count, count-some}
+use Rattle.counting.specs.Counting.{one, sum, sum-one-more, sum-each, count, count-some}
 
 -- ---- sums
 
@@ -15,6 +15,11 @@ pub sum-at : (n : ℕ) (f : ℕ → ℕ) (j : ℕ) → j < n → f j ≤ sum f n
 unfolding sum
 sum-at zero f j l = absurd (omega arith)
 sum-at (suc n) f j l = elim (ℕ-discrete j n) [ yes e ↦ rw e (omega arith) | no e ↦ omega (arith, sum-at n f j (omega arith)) ]
+
+-- all but one are 0
+pub sum-only : (n : ℕ) (f : ℕ → ℕ) (m : ℕ) → m < n → ((k : ℕ) → k < n → k ≢ m → f k ≡ 0) → sum f n ≡ f m
+sum-only n f m l h =
+    omega (arith, sum-at n f m l, sum-each 0 n, sum-one-more n f (λ i. 0) m (f m) (λ k q d. omega (arith, h k q d)) (omega arith))
 
 -- at most c each
 pub sum-most : (n c : ℕ) (f : ℕ → ℕ) → ((i : ℕ) → i < n → f i ≤ c) → sum f n ≤ n * c

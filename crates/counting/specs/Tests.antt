@@ -1,8 +1,11 @@
 -- What a test that holds says, and how to show that one holds.
-use mathlib.Core.Path.{_≡_, refl, sym}
+use mathlib.Core.Path.{_≡_, refl, sym, _∙_}
+use mathlib.Core.Logic.{_≢_}
 use mathlib.Core.Bool.{Bool, true, false, _&&_, _||_, not}
-use Prim.Native.Nat.{ℕ}
+use Prim.Native.Nat.{ℕ, _+_}
 use native.Mathlib.Omega.{arith}
+use lib.Dec.{eqb}
+use borrow.Author.Tests.{eqb-true, eq-eqb, ne-eqb}
 
 pub no-both : {b : Bool} → b ≡ true → b ≡ false → ⊥
 no-both p q = let z : _≡_ {A = ℕ} 0 1 = cc in omega arith
@@ -27,6 +30,18 @@ and-true false = refl
 pub and-assoc : (a b c : Bool) → ((a && b) && c) ≡ (a && (b && c))
 and-assoc true b c = refl
 and-assoc false b c = refl
+
+-- the firsts of two pairs and the seconds
+pub and-mixed : (a b c d : Bool) → ((a && b) && (c && d)) ≡ ((a && c) && (b && d))
+and-mixed true true c d = refl
+and-mixed true false true d = refl
+and-mixed true false false d = refl
+and-mixed false b c d = refl
+
+-- the second fails
+pub and-no : (a : Bool) {b : Bool} → b ≡ false → (a && b) ≡ false
+and-no true h = h
+and-no false h = refl
 
 pub and-no-right : (a : Bool) {b : Bool} → a ≡ true → (a && b) ≡ false → b ≡ false
 and-no-right true e h = h
@@ -71,3 +86,19 @@ other-holds false h e = h
 pub neither : (a b : Bool) → (a || b) ≡ false → (a ≡ false) × (b ≡ false)
 neither true b h = absurd (no-both refl h)
 neither false b h = (refl, h)
+
+-- ---- tests of numbers
+
+pub eqb-swap : (x y : ℕ) → eqb x y ≡ eqb y x
+eqb-swap x y = bool-iff (eqb x y) (eqb y x) (λ h. eq-eqb y x (sym (eqb-true x y h))) (λ h. eq-eqb x y (sym (eqb-true y x h)))
+
+-- no number is two
+pub eqb-apart : (c i j : ℕ) → i ≢ j → (eqb c i && eqb c j) ≡ false
+eqb-apart c i j d = by-cases (eqb c i) (λ e. and-no (eqb c i) (ne-eqb c j (λ f. d (sym (eqb-true c i e) ∙ f)))) (λ e. rw e refl)
+
+-- a sum is 0 if both are
+pub none-added : (a b : ℕ) → eqb (a + b) 0 ≡ (eqb a 0 && eqb b 0)
+none-added a b =
+    bool-iff (eqb (a + b) 0) (eqb a 0 && eqb b 0)
+    (λ h. let z = eqb-true (a + b) 0 h in and-both (eq-eqb a 0 (omega arith)) (eq-eqb b 0 (omega arith)))
+    (λ h. let p = both (eqb a 0) h in eq-eqb (a + b) 0 (omega (arith, eqb-true a 0 (p .0), eqb-true b 0 (p .1))))

@@ -1,14 +1,14 @@
 -- Values that should be equal, met one by one: whether there was one, the first, and whether all equal it.
-use mathlib.Core.Path.{_≡_, refl, sym, _∙_}
-use mathlib.Core.Bool.{Bool, true, false, cond, _&&_}
+use mathlib.Core.Path.{_≡_, refl, sym, ap, _∙_}
+use mathlib.Core.Bool.{Bool, true, false, cond, not, _&&_}
 use Prim.Native.Nat.{ℕ, zero, suc, _+_, _<_}
 use native.Mathlib.Omega.{arith}
 use native.Mathlib.Numerals.{add-one}
 use lib.Dec.{eqb}
-use borrow.Author.Tests.{eqb-true, eq-eqb}
+use borrow.Author.Tests.{eqb-true, eq-eqb, ne-eqb}
 use Rattle.counting.specs.declared.values.Values.{Values}
 use Rattle.counting.specs.Tests.{both, and-both, no-both, by-cases}
-use Rattle.counting.specs.Counting.{below}
+use Rattle.counting.specs.Counting.{below, count, count-zero, none-counted}
 
 -- one value more
 abbrev pub metOf : Values → ℕ → Values
@@ -27,7 +27,7 @@ valuesOf (suc n) p f = cond (p n) (metOf (valuesOf n p f) (f n)) (valuesOf n p f
 -- ---- one value more
 
 module _ (s : Values) (x : ℕ) where
-  met-seen : metOf s x .seen ≡ true
+  pub met-seen : metOf s x .seen ≡ true
   met-seen = by-cases (s .seen) (λ e. rw e refl) (λ e. rw e refl)
 
   met-equal : metOf s x .equal ≡ true → s .equal ≡ true
@@ -72,6 +72,50 @@ pub unseen-values : (n : ℕ) (p : ℕ → Bool) (f : ℕ → ℕ) → ((m : ℕ
 unfolding valuesOf
 unseen-values zero p f h = refl
 unseen-values (suc n) p f h = rw (h n (omega arith)) (unseen-values n p f (λ m l. h m (omega arith)))
+
+-- as the test counts
+pub count-seen : (n : ℕ) (p : ℕ → Bool) (f : ℕ → ℕ) → eqb (count p n) 0 ≡ not (valuesOf n p f .seen)
+count-seen n p f = by-cases (valuesOf n p f .seen)
+    (λ e. ne-eqb _ _ (λ z. no-both e (unseen-values n p f (none-counted n p z))) ∙ sym (ap not e))
+    (λ e. eq-eqb _ _ (count-zero n p (values-unseen n p f e)) ∙ sym (ap not e))
+
+-- ---- other tests and values that agree where the first test holds
+
+pub values-ext :
+    (n : ℕ) (p q : ℕ → Bool) (f g : ℕ → ℕ) → ((m : ℕ) → m < n → q m ≡ p m) → ((m : ℕ) → m < n → p m ≡ true → g m ≡ f m)
+    → valuesOf n q g ≡ valuesOf n p f
+unfolding valuesOf
+values-ext zero p q f g h e = refl
+values-ext (suc n) p q f g h e =
+    let r = values-ext n p q f g (λ m l. h m (omega arith)) (λ m l. e m (omega arith)) in
+    by-cases (p n) (λ y. rw (h n (omega arith), y, r, e n (omega arith) y) refl) (λ y. rw (h n (omega arith), y, r) refl)
+
+-- ---- the first of the values, and of what a function makes of them
+
+module _ (p : ℕ → Bool) (f : ℕ → ℕ) where
+  pub first-holds : (t : ℕ → Bool) (n : ℕ) → t 0 ≡ true → ((m : ℕ) → m < n → p m ≡ true → t (f m) ≡ true) → t (valuesOf n p f .first) ≡ true
+  unfolding valuesOf
+  first-holds t zero z h = z
+  first-holds t (suc n) z h =
+      let r = first-holds t n z (λ m l. h m (omega arith)) in
+      by-cases (p n)
+      (λ y. rw y (by-cases (valuesOf n p f .seen) (λ e. rw e r) (λ e. rw e (h n (omega arith) y))))
+      (λ y. rw y r)
+
+  module _ (h : ℕ → ℕ) where
+    seen-of : (n : ℕ) → valuesOf n p (λ k. h (f k)) .seen ≡ valuesOf n p f .seen
+    unfolding valuesOf
+    seen-of zero = refl
+    seen-of (suc n) = by-cases (p n)
+        (λ y. rw (y, seen-of n) (by-cases (valuesOf n p f .seen) (λ e. rw e refl) (λ e. rw e refl)))
+        (λ y. rw y (seen-of n))
+
+    pub first-of : (n : ℕ) → h 0 ≡ 0 → valuesOf n p (λ k. h (f k)) .first ≡ h (valuesOf n p f .first)
+    unfolding valuesOf
+    first-of zero z = sym z
+    first-of (suc n) z = by-cases (p n)
+        (λ y. rw (y, seen-of n) (by-cases (valuesOf n p f .seen) (λ e. rw e (first-of n z)) (λ e. rw e refl)))
+        (λ y. rw y (first-of n z))
 
 -- ---- they are equal: each is the first
 
