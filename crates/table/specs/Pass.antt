@@ -6,6 +6,7 @@ use mathlib.Core.List.{List, [], _∷_, map}
 use native.Mathlib.Omega.{arith}
 use native.Mathlib.Decide.{ℕ-discrete, decLt}
 use native.Mathlib.Nat.{mod-lt, div-lt-iff-lt-mul, div-add-mod'}
+use Rattle.counting.specs.Counting.{below}
 use Rattle.table.specs.declared.geometry.Geometry.{Geometry}
 use Rattle.table.specs.Stores.{Change, Store, entryStore, runs}
 use Rattle.table.specs.View.{Entry, View, changed, update}
@@ -40,10 +41,6 @@ pub record Changed (z : Entry → Type 0) (i j : ℕ) (u w : View) : Type 0 wher
 pub record Passed (nd it : ℕ → ℕ) (z : ℕ → Entry → Type 0) (u : View) (k : ℕ) (w : View) : Type 0 where
   pub good : (d : ℕ) → d < k → z d (w .entry (nd d) (it d))
   pub rest : (n b : ℕ) → ((d : ℕ) → d < k → n ≡ nd d → b ≡ it d → ⊥) → w .entry n b ≡ u .entry n b
-
--- below suc i: below i, or i
-below-or : (P : ℕ → Type 0) {i n : ℕ} → n < suc i → (n < i → P n) → P i → P n
-below-or P {i} {n} l f p = elim (ℕ-discrete n i) [ yes q ↦ rw q p | no q ↦ f (omega arith) ]
 
 -- the place (i, j), or another
 here-or : (P : ℕ → ℕ → Type 0) (i j n b : ℕ) → P i j → ((n ≡ i → b ≡ j → ⊥) → P n b) → P n b
@@ -83,7 +80,7 @@ module _ (g : Geometry) (p : ℕ → ℕ → Entry → Type 0) (v : View) where
         (entry-via (z k) (nd k) (it k) (within k hk .0) (within k hk .1) w ew {cs = changes k}
         (rw (pw .rest (nd k) (it k) (λ d l e e′. earlier d l (once k d hk (omega arith) e e′))) (local k hk)))
         (λ w′ _ f. record {
-          good = λ d l. below-or (λ d. z d (w′ .entry (nd d) (it d))) l
+          good = λ d l. below (λ d. z d (w′ .entry (nd d) (it d))) l
               (λ l. rw (f .rest (nd d) (it d) (λ e e′. earlier d l (once k d hk (omega arith) (sym e) (sym e′)))) (pw .good d l)) (f .good);
           rest = λ n b h. f .rest n b (h k (omega arith)) ∙ pw .rest n b (λ d l. h d (omega arith));
         })
