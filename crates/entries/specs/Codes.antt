@@ -4,17 +4,11 @@ use mathlib.Core.Logic.{_≢_}
 use mathlib.Core.Bool.{Bool, true, false, _&&_, _||_}
 use Prim.Native.Nat.{ℕ, _+_, _<_}
 use lib.Dec.{eqb}
-use borrow.Author.Tests.{eqb-true}
-use Rattle.counting.specs.Tests.{no-both, both, and-both, by-cases}
+use Rattle.counting.specs.Tests.{no-both, both, and-both, by-cases, eqb-apart}
 use Rattle.table.specs.View.{View, live, current}
 use Rattle.counting.specs.Counting.{count, count-ext, count-or, count-tight}
 use Rattle.entries.specs.Tally.{has, copy}
 use Rattle.entries.specs.Kinds.{copy-at, copy-live}
-
-apart : (c i j : ℕ) → i ≢ j → (eqb c i && eqb c j) ≡ false
-apart c i j d = by-cases (eqb c i)
-    (λ e. by-cases (eqb c j) (λ f. absurd (d (sym (eqb-true c i e) ∙ eqb-true c j f))) (λ f. rw (e, f) refl))
-    (λ e. rw e refl)
 
 apart-or : (a x y : Bool) → (a && x) ≡ false → (a && y) ≡ false → (a && (x || y)) ≡ false
 apart-or true x y p q = rw (p, q) refl
@@ -26,7 +20,7 @@ module _ (v : View) (N b : ℕ) where
   coded codes n = live v n && codes (current (v .entry n b))
 
   pub two-codes : (i j : ℕ) → i ≢ j → count (coded (λ c. eqb c i || eqb c j)) N ≡ count (has v b i) N + count (has v b j) N
-  two-codes i j d = count-or N (live v) (λ n. eqb (current (v .entry n b)) i) (λ n. eqb (current (v .entry n b)) j) (λ n. apart (current (v .entry n b)) i j d)
+  two-codes i j d = count-or N (live v) (λ n. eqb (current (v .entry n b)) i) (λ n. eqb (current (v .entry n b)) j) (λ n. eqb-apart (current (v .entry n b)) i j d)
 
   pub three-codes :
       (i j k : ℕ) → i ≢ j → i ≢ k → j ≢ k
@@ -34,7 +28,7 @@ module _ (v : View) (N b : ℕ) where
   three-codes i j k d e f =
       let c : ℕ → ℕ = λ n. current (v .entry n b) in
       count-or N (live v) (λ n. eqb (c n) i) (λ n. eqb (c n) j || eqb (c n) k)
-      (λ n. apart-or (eqb (c n) i) (eqb (c n) j) (eqb (c n) k) (apart (c n) i j d) (apart (c n) i k e))
+      (λ n. apart-or (eqb (c n) i) (eqb (c n) j) (eqb (c n) k) (eqb-apart (c n) i j d) (eqb-apart (c n) i k e))
       ∙ ap (λ m. count (has v b i) N + m) (two-codes j k f)
 
   -- the codes count as many as there are copies: each copy has one of them; and back

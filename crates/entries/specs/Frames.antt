@@ -1,12 +1,12 @@
 -- "Each place not Invalid uses a frame; no live node uses more than F." Frames are asked of a node and a set of items; a node's frames are one set.
-use Prim.Native.Nat.{ℕ, zero, suc, _+_, _*_, _<_, _≤_}
-use mathlib.Core.Path.{_≡_, refl, sym, ap, ap₂, _∙_}
+use Prim.Native.Nat.{ℕ, _+_, _*_, _<_, _≤_}
+use mathlib.Core.Path.{_≡_, sym, ap, ap₂, _∙_}
 use mathlib.Core.Bool.{Bool, true, false, cond, _&&_, _||_}
 use native.Mathlib.Omega.{arith}
 use lib.Dec.{eqb, leb, ltb}
 use borrow.Author.Tests.{eq-eqb, ne-eqb, ltb-true, lt-ltb, leb-true}
 use Rattle.counting.specs.Tests.{both, by-cases, other-holds}
-use Rattle.counting.specs.Counting.{every, sum, sum-one-less}
+use Rattle.counting.specs.Counting.{every, sum, sum-one-less, sum-each}
 use Rattle.table.specs.declared.geometry.Geometry.{Geometry}
 use Rattle.table.specs.Words.{currentOf, keptOf, stateWord, current-state, kept-state}
 use Rattle.table.specs.View.{View}
@@ -88,11 +88,6 @@ module _ (g : Geometry) (v : View) (n s b : ℕ) {set : ℕ} (h : set ≡ setOf 
   unfolding framesAt
   frames-elsewhere e = rw (← h, ne-eqb set s e)
 
-sum-twos : (n : ℕ) → sum (λ i. 2) n ≡ 2 * n
-unfolding sum
-sum-twos zero = refl
-sum-twos (suc n) = omega (arith, sum-twos n)
-
 -- frames are ample and a place of item b's entry is Invalid: not all are in use
 module _ (g : Geometry) (v : View) (n b : ℕ) where
   frames-at-two : (s i : ℕ) → framesAt g v n s i ≤ framesIn (v .entry n i .state)
@@ -109,7 +104,7 @@ module _ (g : Geometry) (v : View) (n b : ℕ) where
   unfolding ampleFor used
   ample-free a h =
       let here = both (ltb b (g .items)) a in
-      let twos = sum-twos (g .items) in
+      let twos = sum-each 2 (g .items) in
       let less = sum-one-less (g .items) (framesAt g v n (setOf g b)) (λ i. 2) b 1 (ltb-true b (g .items) (here .0))
       (λ i l e. omega (arith, frames-at-two (setOf g b) i, frames-two (v .entry n i .state)))
       (omega (arith, frames-at-two (setOf g b) b, half-one (v .entry n b .state) h)) in

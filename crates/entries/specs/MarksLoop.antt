@@ -1,7 +1,7 @@
 -- What the code has met of the marks below n: the live ones are one word exactly if they have their form and agree in phase and number.
 use mathlib.Core.Path.{_≡_, refl, sym, ap, ap₂, _∙_}
-use mathlib.Core.Bool.{Bool, true, false, not, _&&_, _||_}
-use Prim.Native.Nat.{ℕ, zero, suc, _+_, _-_, _^_, _≤_, _<_}
+use mathlib.Core.Bool.{Bool, true, false, not, _&&_, _||_, and-true, and-assoc}
+use Prim.Native.Nat.{ℕ, _+_, _-_, _^_, _≤_, _<_}
 use native.Mathlib.Omega.{arith}
 use Rattle.table.specs.Words.{markForm, phaseOf, numberOf, markWord}
 use Rattle.table.specs.Forms.{live-mark}
@@ -9,9 +9,9 @@ use lib.Dec.{eqb, ltb}
 use borrow.Author.Tests.{eqb-true, eqb-false, eq-eqb, ne-eqb, not-true}
 use Rattle.table.specs.View.{View, live}
 use Rattle.counting.specs.declared.values.Values.{Values}
-use Rattle.counting.specs.Tests.{both, and-both, by-cases, bool-iff, and-true, and-assoc}
+use Rattle.counting.specs.Tests.{both, and-both, by-cases, bool-iff}
 use Rattle.counting.specs.Counting.{every-at, every-all}
-use Rattle.counting.specs.Values.{valuesOf, values-next, values-equal, equal-values}
+use Rattle.counting.specs.Values.{valuesOf, values-next, first-holds, first-of, values-equal, equal-values}
 use Rattle.entries.specs.Sound.{marksForm, phasesOf, pointsOf, marksAgree, nodesSound, itemsSound, sound}
 use Rattle.table.specs.declared.geometry.Geometry.{Geometry}
 use Rattle.entries.specs.declared.marks.Marks.{Marks}
@@ -80,33 +80,6 @@ module _ (v : View) (n first : ℕ) (equal : Bool) (s : Marking v n first equal)
 
 pub marking-all : (v : View) (n k first : ℕ) (equal : Bool) → Marking v n first equal → n ≤ k → k ≤ n → Marked v k (record { first = first; equal = equal })
 marking-all v n k first equal s h g = let e : n ≡ k = omega arith in rw (← e) (record { first = s .first-is; equal = s .equal-is })
-
--- ---- the first of the values, and of what a function makes of them
-
-module _ (p : ℕ → Bool) (f : ℕ → ℕ) where
-  first-holds : (t : ℕ → Bool) (n : ℕ) → t 0 ≡ true → ((m : ℕ) → m < n → p m ≡ true → t (f m) ≡ true) → t (valuesOf n p f .first) ≡ true
-  unfolding valuesOf
-  first-holds t zero z h = z
-  first-holds t (suc n) z h =
-      let r = first-holds t n z (λ m l. h m (omega arith)) in
-      by-cases (p n)
-      (λ y. rw y (by-cases (valuesOf n p f .seen) (λ e. rw e r) (λ e. rw e (h n (omega arith) y))))
-      (λ y. rw y r)
-
-  module _ (h : ℕ → ℕ) where
-    seen-of : (n : ℕ) → valuesOf n p (λ k. h (f k)) .seen ≡ valuesOf n p f .seen
-    unfolding valuesOf
-    seen-of zero = refl
-    seen-of (suc n) = by-cases (p n)
-        (λ y. rw (y, seen-of n) (by-cases (valuesOf n p f .seen) (λ e. rw e refl) (λ e. rw e refl)))
-        (λ y. rw y (seen-of n))
-
-    first-of : (n : ℕ) → h 0 ≡ 0 → valuesOf n p (λ k. h (f k)) .first ≡ h (valuesOf n p f .first)
-    unfolding valuesOf
-    first-of zero z = sym z
-    first-of (suc n) z = by-cases (p n)
-        (λ y. rw (y, seen-of n) (by-cases (valuesOf n p f .seen) (λ e. rw e (first-of n z)) (λ e. rw e refl)))
-        (λ y. rw y (first-of n z))
 
 -- ---- what the live marks tell
 

@@ -1,13 +1,12 @@
 -- The lowest dirty item by the tallies of a survey: where the entries of the live nodes are of good form, it is that of the definition.
 use Prim.Native.Nat.{ℕ, _+_, _*_, _/_, _%_, _^_, _<_, _≤_}
 use mathlib.Core.Path.{_≡_, refl, sym, ap, _∙_}
-use mathlib.Core.Bool.{Bool, true, false, not, cond, _&&_, _||_}
+use mathlib.Core.Bool.{Bool, true, false, not, cond, _&&_, _||_, and-true, or-assoc, or-self, or-false}
 use mathlib.Core.List.{List}
 use native.Mathlib.Omega.{arith}
 use lib.Dec.{eqb, ltb}
 use lib.ListN.{getD}
-use borrow.Author.Tests.{eqb-true}
-use Rattle.counting.specs.Tests.{both, by-cases, given, and-true}
+use Rattle.counting.specs.Tests.{both, by-cases, given, eqb-apart}
 use Rattle.counting.specs.Counting.{every, every-at, every-back, every-back-ends, sum, count, count-le, count-ext, count-or}
 use Rattle.counting.specs.First.{first, first-le, first-ext, found-counted, firstElse, else-starts, else-turns, else-ends}
 use Rattle.table.specs.declared.geometry.Geometry.{Geometry}
@@ -47,9 +46,7 @@ other-way true x y = refl
 other-way false x y = refl
 
 or-again : (m o : Bool) → ((m || o) || o) ≡ ((m || o) || false)
-or-again true o = refl
-or-again false true = refl
-or-again false false = refl
+or-again m o = or-assoc m o o ∙ ap (λ q. m || q) (or-self o) ∙ sym (or-false (m || o))
 
 kind-by : (phase t : ℕ) → kindBy (createdTally phase) t ≡ kindTest phase t
 kind-by phase t = by-cases (eqb phase 1) (λ e. rw e refl)
@@ -76,16 +73,13 @@ module _ (notes : List ℕ) (items phase : ℕ) where
 
 -- ---- one item: its tally tells whether a live node owns it
 
-owner-or-modified : (c : ℕ) → (eqb c owner && eqb c modified) ≡ false
-owner-or-modified c = by-cases (eqb c owner) (λ e. rw (eqb-true c owner e) refl) (λ e. rw e refl)
-
 module _ (v : View) (b n : ℕ) (few : n < 32) (formed : (m : ℕ) → m < n → live v m ≡ true → codesForm (topAt v b m) ≡ true) where
   owned-count : count (ownsAt v b) n ≡ count (liveTop (holdsAt 2) v b) n + count (liveTop (holdsAt 3) v b) n
   unfolding ownsAt
   owned-count = omega (
     arith,
     count-or n (live v) (λ m. eqb (current (v .entry m b)) owner) (λ m. eqb (current (v .entry m b)) modified)
-        (λ m. owner-or-modified (current (v .entry m b))),
+        (λ m. eqb-apart (current (v .entry m b)) owner modified (λ e. omega arith)),
     count-ext n (has v b 2) (liveTop (holdsAt 2) v b) (same-has v b n few formed 2),
     count-ext n (has v b 3) (liveTop (holdsAt 3) v b) (same-has v b n few formed 3),
   )

@@ -1,25 +1,19 @@
 -- A tally by its counts: no count runs over into the next.
 use Prim.Native.Nat.{ℕ, zero, suc, _+_, _*_, _/_, _%_, _^_, _<_, _≤_}
-use mathlib.Core.Path.{_≡_, refl, sym, ap, _∙_}
-use mathlib.Core.Bool.{Bool, true, false, not, cond}
+use mathlib.Core.Path.{_≡_, refl, ap, _∙_}
+use mathlib.Core.Bool.{Bool, true, not, cond}
 use native.Mathlib.Omega.{arith}
 use lib.Dec.{eqb, ltb}
-use borrow.Author.Tests.{eqb-true, eq-eqb, ne-eqb, ltb-true}
-use Rattle.counting.specs.Tests.{no-both, both, by-cases, bool-iff}
-use Rattle.counting.specs.Counting.{every, every-at, sum, count, one, count-le, count-zero, none-counted}
-use Rattle.counting.specs.Values.{valuesOf, values-unseen, unseen-values}
+use borrow.Author.Tests.{eqb-true, eq-eqb, ltb-true}
+use Rattle.counting.specs.Tests.{both, by-cases, bool-iff}
+use Rattle.counting.specs.Counting.{every, every-at, sum, count, one, one-same, count-le}
+use Rattle.counting.specs.Values.{count-seen}
+use Rattle.counting.specs.Crowded.{sum-most}
 use Rattle.table.specs.View.{View, live}
 use Rattle.entries.specs.Frames.{frame-le}
 use Rattle.entries.specs.Survey.{codesForm, holds, keeps, holdsAt, keepsAt, framesBy, weightOf, topAt, liveTop, weightAt, heldValues, keptValues}
 
 -- ---- a weight
-
--- tests that count the same are the same
-one-same : (a b : Bool) → one a ≡ one b → a ≡ b
-one-same true true e = refl
-one-same true false e = absurd (omega arith)
-one-same false true e = absurd (omega arith)
-one-same false false e = refl
 
 abbrev holdsRule : ℕ → Bool
 holdsRule i = eqb (one (eqb (weightOf i % 32) 0)) (one (not (holds i)))
@@ -77,13 +71,6 @@ pub frames-two : (top : ℕ) → framesBy top ≤ 2
 unfolding framesBy
 frames-two top = by-cases (codesForm top) (λ e. rw e (omega (arith, frame-le (top / 4), frame-le (top % 4)))) (λ e. rw e (omega arith))
 
--- ---- a test counts none exactly if its values are not seen
-
-pub count-seen : (n : ℕ) (p : ℕ → Bool) (f : ℕ → ℕ) → eqb (count p n) 0 ≡ not (valuesOf n p f .seen)
-count-seen n p f = by-cases (valuesOf n p f .seen)
-    (λ e. ne-eqb _ _ (λ z. no-both e (unseen-values n p f (none-counted n p z))) ∙ sym (ap not e))
-    (λ e. eq-eqb _ _ (count-zero n p (values-unseen n p f e)) ∙ sym (ap not e))
-
 -- ---- a tally over the nodes below n
 
 module _ (v : View) (b : ℕ) where
@@ -136,11 +123,8 @@ module _ (v : View) (b : ℕ) where
       omega (arith, keeps-count n)
 
   frames-few : (n : ℕ) → sum frames n ≤ 2 * n
-  unfolding sum
-  frames-few zero = omega arith
-  frames-few (suc n) =
-      let e : frames n ≤ 2 = by-cases (live v n) (λ l. rw l (frames-two (topAt v b n))) (λ l. rw l (omega arith)) in
-      omega (arith, frames-few n)
+  frames-few n =
+      omega (arith, sum-most n 2 frames (λ m _. by-cases (live v m) (λ l. rw l (frames-two (topAt v b m))) (λ l. rw l (omega arith))))
 
   module _ (n : ℕ) (few : n < 32) where
     pub tally-held : eqb (sum (weightAt v b) n % 32) 0 ≡ not (heldValues v b n .seen)

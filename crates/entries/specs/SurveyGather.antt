@@ -1,7 +1,7 @@
 -- The entries of a row that hold something: as they are gathered, and the next one after an item.
 use Prim.Native.Nat.{ℕ, zero, suc, _+_, _*_, _^_, _<_, _≤_}
 use mathlib.Core.Path.{_≡_, refl, ap, subst, _∙_}
-use mathlib.Core.Bool.{Bool, true, false, not}
+use mathlib.Core.Bool.{Bool, not}
 use mathlib.Core.List.{List}
 use native.Mathlib.Omega.{arith}
 use native.Mathlib.Decide.{ℕ-discrete}
@@ -11,24 +11,13 @@ use lib.ListN.{length, getD, set, length-set}
 use lib.Seq.{getD-set-same, getD-set-other}
 use borrow.Author.Tests.{eq-eqb, ne-eqb, ltb-true, ltb-false}
 use Rattle.counting.specs.Tests.{by-cases}
-use Rattle.counting.specs.Counting.{count, count-none, count-next, below, one, Counted}
+use Rattle.counting.specs.Counting.{count, count-none, count-next, count-up, below, one, Counted, bit-counted}
 use Rattle.entries.specs.Row.{rowState, row-read}
 use Rattle.entries.specs.SurveyRow.{occupies, Gathered}
 
 -- one more
 pub count-occupied : (s : ℕ → ℕ) (b : ℕ) → (s b ≡ 0 → ⊥) → count (occupies s) (b + 1) ≡ count (occupies s) b + 1
 count-occupied s b d = omega (arith, count-next (occupies s) b, ap (λ q. one (not q)) (ne-eqb (s b) 0 d))
-
--- more entries, no fewer that hold something
-count-up : (m : ℕ) (p : ℕ → Bool) (n : ℕ) → n ≤ m → count p n ≤ count p m
-unfolding count
-count-up zero p n h = omega (arith, ap (count p) (let e : n ≡ 0 = omega arith in e))
-count-up (suc m) p n h = elim (ℕ-discrete n (suc m)) [ yes e ↦ omega (arith, ap (count p) e) | no e ↦ omega (arith, count-up m p n (omega arith)) ]
-
--- the code's count of a test
-pub bit-counted : (q : Bool) → Counted q (boolByte q)
-bit-counted true = record { is = refl; small = omega arith }
-bit-counted false = record { is = refl; small = omega arith }
 
 pub bit-fits : (a : ℕ) (q : Bool) → a ≤ 256 → a + boolByte q < 2 ^ 64
 bit-fits a q h = omega (arith, bit-counted q .small)

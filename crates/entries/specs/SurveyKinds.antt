@@ -1,51 +1,35 @@
 -- What the tally of an item tells, where all entries of the live nodes are of good form: whether it is clean, dirty or created.
 use Prim.Native.Nat.{ℕ, zero, suc, _+_, _*_, _/_, _%_, _^_, _<_}
 use mathlib.Core.Path.{_≡_, refl, sym, ap, ap₂, _∙_, subst, fun-ext}
-use mathlib.Core.Bool.{Bool, true, false, not, _&&_, _||_}
+use mathlib.Core.Bool.{Bool, true, false, not, _&&_, _||_, and-false, and-assoc, and-or-distrib-right}
 use native.Mathlib.Omega.{arith}
 use lib.Dec.{eqb}
 use borrow.Author.Tests.{eqb-true, eq-eqb, not-true}
-use Rattle.counting.specs.Tests.{no-both, both, and-both, and-same, by-cases, bool-iff, and-assoc}
+use Rattle.counting.specs.Tests.{no-both, both, and-both, and-same, by-cases, bool-iff}
 use Rattle.counting.specs.Counting.{every, every-at, sum, count, one, count-le, count-ext}
-use Rattle.counting.specs.Values.{values-unseen, equal-values}
+use Rattle.counting.specs.Values.{values-unseen, count-seen, values-ext, equal-values}
 use Rattle.table.specs.View.{View, live, current, kept}
 use Rattle.entries.specs.Tally.{Counts, has, hasKept, copy, keep, countsOf}
 use Rattle.entries.specs.Items.{itemTest}
-use Rattle.entries.specs.Unread.{values-ext}
 use Rattle.entries.specs.Row.{quarter}
 use Rattle.entries.specs.Survey.{codesForm, holds, keeps, holdsAt, keepsAt, topAt, liveTop, weightAt, heldValues, keptValues, kindTest}
-use Rattle.entries.specs.SurveyFields.{form-codes, count-seen, keeps-count, tally-fields}
+use Rattle.entries.specs.SurveyFields.{form-codes, keeps-count, tally-fields}
 
 -- ---- tests
 
-and-none : (a : Bool) → (a && false) ≡ false
-and-none true = refl
-and-none false = refl
-
--- a test that both sides of an `||` ask
-or-both : (a b x : Bool) → ((a && x) || (b && x)) ≡ ((a || b) && x)
-or-both true true true = refl
-or-both true true false = refl
-or-both true false true = refl
-or-both true false false = refl
-or-both false b x = refl
-
 -- three tests before another
 and-three : (a b c x y : Bool) → (a && (b && (c && (x && y)))) ≡ ((a && (b && (c && x))) && y)
-and-three true true true x y = refl
-and-three true true false x y = refl
-and-three true false c x y = refl
-and-three false b c x y = refl
+and-three a b c x y = simp and-assoc
 
 -- nothing kept, so what is kept is equal
 nothing-kept : (equal nothing same : Bool) → (nothing ≡ true → same ≡ true) → (equal && nothing) ≡ (nothing && (equal && same))
 nothing-kept equal true same h = ap (λ q. equal && q) (sym (h refl))
-nothing-kept equal false same h = and-none equal
+nothing-kept equal false same h = and-false equal
 
 both-kept : (equal one two same : Bool) → (equal && (one && (two && same))) ≡ ((one && two) && (equal && same))
 both-kept equal true true same = refl
-both-kept equal true false same = and-none equal
-both-kept equal false two same = and-none equal
+both-kept equal true false same = and-false equal
+both-kept equal false two same = and-false equal
 
 -- ---- an item's counts: kept at two codes, current at 2 to 7, shared, all copies
 
@@ -151,7 +135,7 @@ module _
           ap (λ q. (m || o) && q) (both-kept equal (eqb k1 1) (eqb k2 1) same)
           ∙ sym (and-assoc (m || o) k (equal && same))
           ∙ ap (λ q. q && (equal && same))
-          (sym (or-both m o k) ∙ ap₂ (λ x y. x || y) modified-whole (owner-upper ∙ ap (λ x. eqb x (1 + 2 ^ 5 + 2 ^ 10)) (sym whole-upper)))
+          (and-or-distrib-right m o k ∙ ap₂ (λ x y. x || y) modified-whole (owner-upper ∙ ap (λ x. eqb x (1 + 2 ^ 5 + 2 ^ 10)) (sym whole-upper)))
 
       created-told :
           (eqb c6 1 && (eqb c7 1 && (eqb a (2 + s) && (equal && (eqb k1 1 && (eqb k2 1 && same))))))
@@ -175,8 +159,8 @@ module _
           ap₂ (λ c r. c || r) clean-told
           (ap₂ (λ d c. d || (eqb phase 1 && c)) dirty-told created-told
           ∙ ap (λ r. (y && q) || r) (sym (and-assoc (eqb phase 1) z q))
-          ∙ or-both y (eqb phase 1 && z) q)
-          ∙ or-both x (y || (eqb phase 1 && z)) q
+          ∙ sym (and-or-distrib-right y (eqb phase 1 && z) q))
+          ∙ sym (and-or-distrib-right x (y || (eqb phase 1 && z)) q)
 
 -- ---- a copy is at one of the codes 1 to 7
 

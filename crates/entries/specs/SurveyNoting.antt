@@ -1,7 +1,7 @@
 -- A row as it is noted: one entry, then the row entry by entry; those that hold nothing are passed over.
 use Prim.Native.Nat.{ℕ, zero, suc, _+_, _*_, _/_, _%_, _^_, _<_, _≤_}
 use mathlib.Core.Path.{_≡_, refl, sym, ap, ap₂, subst, _∙_}
-use mathlib.Core.Bool.{Bool, true, false, cond, _&&_}
+use mathlib.Core.Bool.{Bool, true, cond, _&&_, and-true, and-assoc, and-comm}
 use mathlib.Core.List.{List}
 use native.Mathlib.Omega.{arith}
 use native.Mathlib.Decide.{ℕ-discrete}
@@ -11,7 +11,7 @@ use lib.Dec.{eqb}
 use lib.ListN.{length, getD, set, length-set}
 use lib.Seq.{getD-set-same, getD-set-other}
 use borrow.Author.Tests.{lt-ltb}
-use Rattle.counting.specs.Tests.{and-both, and-true}
+use Rattle.counting.specs.Tests.{and-both}
 use Rattle.counting.specs.Differences.{none-gathered, none-differ}
 use Rattle.counting.specs.Counting.{every, every-none, every-next, sum, sum-none, sum-next, count, count-none, count-le, below}
 use Rattle.table.specs.declared.geometry.Geometry.{Geometry}
@@ -75,14 +75,7 @@ module _ (l : List ℕ) (j a b c : ℕ) where
 -- ---- a row, entry by entry
 
 and-turn : (a b c : Bool) → (a && (b && c)) ≡ (c && (a && b))
-and-turn true true true = refl
-and-turn true true false = refl
-and-turn true false true = refl
-and-turn true false false = refl
-and-turn false true true = refl
-and-turn false true false = refl
-and-turn false false true = refl
-and-turn false false false = refl
+and-turn a b c = sym (and-assoc a b c) ∙ and-comm (a && b) c
 
 -- of node n's row of m items those below b are noted
 pub record Passed (v : View) (m n b : ℕ) (notes : List ℕ) (frames : ℕ) (same : Bool) : Type 0 where

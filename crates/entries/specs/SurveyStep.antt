@@ -1,12 +1,12 @@
 -- One entry more in the survey: of a live node, and one that holds nothing.
 use Prim.Native.Nat.{ℕ, zero, suc, _+_, _/_, _%_, _^_, _<_}
 use mathlib.Core.Path.{_≡_, refl, sym, ap, ap₂, _∙_}
-use mathlib.Core.Bool.{Bool, true, false, not, cond, _&&_, _||_}
+use mathlib.Core.Bool.{Bool, true, false, not, cond, _&&_, _||_, and-true}
 use native.Mathlib.Omega.{arith}
 use native.Mathlib.Numerals.{add-one}
 use lib.Dec.{eqb}
-use borrow.Author.Tests.{eq-eqb, eqb-true}
-use Rattle.counting.specs.Tests.{by-cases, no-both, and-true}
+use borrow.Author.Tests.{eq-eqb}
+use Rattle.counting.specs.Tests.{by-cases, no-both, and-mixed, eqb-swap}
 use Rattle.counting.specs.Counting.{every, sum-next}
 use Rattle.counting.specs.Values.{metOf, valuesOf, values-next}
 use Rattle.counting.specs.declared.values.Values.{Values}
@@ -16,11 +16,6 @@ use Rattle.entries.specs.SurveyRow.{firstWith, keptWith, sameWith, sameK
 use Rattle.entries.specs.SurveyFields.{weight-holds, weight-keeps, weight-small, tally-held, tally-kept, tally-small}
 
 -- ---- the first value and one entry more, which has a copy or not
-
-eqb-swap : (x y : ℕ) → eqb x y ≡ eqb y x
-eqb-swap x y = by-cases (eqb x y)
-    (λ e. e ∙ sym (eq-eqb y x (sym (eqb-true x y e))))
-    (λ e. by-cases (eqb y x) (λ q. absurd (no-both (eq-eqb x y (sym (eqb-true y x q))) e)) (λ q. e ∙ sym q))
 
 module _ (s : Values) (has none : Bool) (f x : ℕ) (z : none ≡ not (s .seen)) (k : s .seen ≡ true → f ≡ s .first) where
   first-step : cond has (metOf s x) s .seen ≡ true → cond none x f ≡ cond has (metOf s x) s .first
@@ -37,12 +32,6 @@ equal-step : (s : Values) (has : Bool) (x : ℕ) → cond has (metOf s x) s .equ
 equal-step s has x = by-cases has
     (λ q. by-cases (s .seen) (λ e. rw (q, e) refl) (λ e. rw (q, e) (sym (and-true (s .equal)))))
     (λ q. rw q (sym (and-true (s .equal))))
-
-and-mixed : (a b c d : Bool) → ((a && b) && (c && d)) ≡ ((a && c) && (b && d))
-and-mixed true true c d = refl
-and-mixed true false true d = refl
-and-mixed true false false d = refl
-and-mixed false b c d = refl
 
 -- ---- an entry
 

@@ -1,13 +1,12 @@
 -- "A dead node's words, mark apart, are never read": views that agree in their marks and in the entries of live nodes are sound or not alike.
 use mathlib.Core.Path.{_≡_, refl, ap, ap₂, _∙_, fun-ext}
 use mathlib.Core.Bool.{Bool, true, false, not, _&&_, _||_}
-use Prim.Native.Nat.{ℕ, zero, suc, _<_}
-use native.Mathlib.Omega.{arith}
+use Prim.Native.Nat.{ℕ, _<_}
 use lib.Dec.{leb, eqb}
 use Rattle.counting.specs.declared.values.Values.{Values}
-use Rattle.counting.specs.Tests.{both, by-cases, and-same}
+use Rattle.counting.specs.Tests.{both, and-same}
 use Rattle.counting.specs.Counting.{every-ext, sum-ext, count, count-ext}
-use Rattle.counting.specs.Values.{valuesOf}
+use Rattle.counting.specs.Values.{values-ext}
 use Rattle.table.specs.declared.geometry.Geometry.{Geometry}
 use Rattle.table.specs.Words.{stateForm, markForm, phaseOf, numberOf}
 use Rattle.table.specs.View.{Entry, View, live, current, kept}
@@ -20,20 +19,11 @@ pub record SameLive (g : Geometry) (v w : View) : Type 0 where
   pub mark : (n : ℕ) → n < g .nodes → w .mark n ≡ v .mark n
   pub entry : (n b : ℕ) → n < g .nodes → b < g .items → live v n ≡ true → w .entry n b ≡ v .entry n b
 
--- ---- tests and values that look only where a first test holds
+-- ---- tests that look only where a first test holds
 
 or-same : (a x y : Bool) → (a ≡ true → x ≡ y) → (not a || x) ≡ (not a || y)
 or-same true x y f = f refl
 or-same false x y f = refl
-
-pub values-ext :
-    (n : ℕ) (p q : ℕ → Bool) (f g : ℕ → ℕ) → ((m : ℕ) → m < n → q m ≡ p m) → ((m : ℕ) → m < n → p m ≡ true → g m ≡ f m)
-    → valuesOf n q g ≡ valuesOf n p f
-unfolding valuesOf
-values-ext zero p q f g h e = refl
-values-ext (suc n) p q f g h e =
-    let r = values-ext n p q f g (λ m l. h m (omega arith)) (λ m l. e m (omega arith)) in
-    by-cases (p n) (λ y. rw (h n (omega arith), y, r, e n (omega arith) y) refl) (λ y. rw (h n (omega arith), y, r) refl)
 
 module _ (g : Geometry) (v w : View) (s : SameLive g v w) where
   same-live : (n : ℕ) → n < g .nodes → live w n ≡ live v n

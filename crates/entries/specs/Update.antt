@@ -1,12 +1,12 @@
 -- One entry is changed: how the counts of its item change, and who is the only node with a code then.
-use mathlib.Core.Path.{_≡_, refl, sym, ap, ap₂, _∙_}
+use mathlib.Core.Path.{_≡_, sym, ap, ap₂, _∙_}
 use mathlib.Core.Logic.{_≢_}
-use mathlib.Core.Bool.{Bool, true, false, not, _&&_}
+use mathlib.Core.Bool.{true, false, not, _&&_}
 use Prim.Native.Nat.{ℕ, _<_}
 use native.Mathlib.Decide.{ℕ-discrete}
 use lib.Dec.{eqb}
 use borrow.Author.Tests.{eq-eqb, ne-eqb}
-use Rattle.counting.specs.Tests.{and-both}
+use Rattle.counting.specs.Tests.{and-both, and-no}
 use Rattle.table.specs.View.{View, live, current}
 use Rattle.counting.specs.Counting.{Only, only-same}
 use Rattle.entries.specs.Tally.{has}
@@ -37,12 +37,8 @@ module _ (v w : View) (N n b : ℕ) (e : Elsewhere v w n b) where
   only-keeps code m p q o = only-same N (has v b code) (has w b code) m
       (λ k l. elim (ℕ-discrete k n) [ yes d ↦ rw d (at-n ∙ sym at-n′) | no d ↦ sym (has-elsewhere code k d) ]) o
     where
-      never : (a x : Bool) → x ≡ false → (a && x) ≡ false
-      never true x f = f
-      never false x f = refl
-
       at-n : has v b code n ≡ false
-      at-n = never (live v n) _ (ne-eqb (current (v .entry n b)) code p)
+      at-n = and-no (live v n) (ne-eqb (current (v .entry n b)) code p)
 
       at-n′ : has w b code n ≡ false
-      at-n′ = never (live w n) _ (ne-eqb (current (w .entry n b)) code q)
+      at-n′ = and-no (live w n) (ne-eqb (current (w .entry n b)) code q)
