@@ -38,9 +38,15 @@ pub record Admits (g : Geometry) (v : View) (n b : ℕ) : Type 0 where
   pub live : v .mark n ≡ 0 → ⊥
   pub closed : phaseOf (v .mark n) ≡ 1 → ⊥
 
-passed : (t : Bool) (x : Refusal) (a : Admission) → cond t (Turned x) a ≡ Admitted → (t ≡ false) × (a ≡ Admitted)
+-- a refusal that is the next one: it does not hold, and what comes after it is admitted
+pub passed : (t : Bool) (x : Refusal) (a : Admission) → cond t (Turned x) a ≡ Admitted → (t ≡ false) × (a ≡ Admitted)
 passed true x a e = let z : _≡_ {A = ℕ} 0 1 = cc in absurd (omega arith)
 passed false x a e = (refl, e)
+
+-- a refusal unless a test holds
+pub asked : (t : Bool) (x : Refusal) → cond t Admitted (Turned x) ≡ Admitted → t ≡ true
+asked true x e = refl
+asked false x e = let z : _≡_ {A = ℕ} 0 1 = cc in absurd (omega arith)
 
 pub admission-tells : (g : Geometry) (v : View) (n b : ℕ) → admissionOf g v n b ≡ Admitted → Admits g v n b
 unfolding admissionOf

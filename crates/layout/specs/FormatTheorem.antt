@@ -1,7 +1,7 @@
 -- THE THEOREM of Format: whatever the slice held before, a formatted table passes the table checks, for every allowed geometry. And what it shows.
 use mathlib.Core.Path.{_≡_, refl, sym, ap, _∙_}
 use mathlib.Core.Logic.{_≢_}
-use mathlib.Core.Bool.{Bool, true, false, not, _&&_}
+use mathlib.Core.Bool.{true, not}
 use mathlib.Core.List.{List, _∷_, _++_}
 use Prim.Native.Nat.{ℕ, zero, suc, _+_, _-_, _*_, _/_, _%_, _<_, _≤_}
 use native.Mathlib.Omega.{arith}
@@ -11,7 +11,7 @@ use lib.Dec.{eqb, leb}
 use lib.ListN.{length, getD, set}
 use lib.Seq.{getD-set-same}
 use borrow.Author.Tests.{eq-eqb, leb-true}
-use Rattle.counting.specs.Tests.{and-both, both, by-cases}
+use Rattle.counting.specs.Tests.{and-both, and-no, both, by-cases}
 use Rattle.counting.specs.Counting.{sum, sum-ext, Only}
 use Rattle.table.specs.declared.geometry.Geometry.{Geometry}
 use Rattle.table.specs.declared.geometry.Made.{Made}
@@ -112,12 +112,8 @@ module _ (g : Geometry) (v : View) (f : Formatted g v) (big : 3 ≤ g .nodes) wh
       second = on sharedCK2 ((2 * b + 1) % N) (mod-lt (2 * b + 1) (omega arith)) (second-on N b (omega arith)) (λ n. second-only N n b);
       others = λ n l t. ap cleanCode (formatted-current n b l k) ∙ place-clean N n b (λ z. copy-code v b n t (formatted-current n b l k ∙ z));
       values = λ n l t. ap (λ e. e .value) (f .entry n b l k);
-      nothing = λ n l. none-kept (live v n) (kept (v .entry n b)) (formatted-kept n b l k);
+      nothing = λ n l. and-no (live v n) (ap not (eq-eqb (kept (v .entry n b)) 0 (formatted-kept n b l k)));
     }
-      where
-        none-kept : (a : Bool) (x : ℕ) → x ≡ 0 → (a && not (eqb x 0)) ≡ false
-        none-kept true x e = rw e refl
-        none-kept false x e = refl
 
   -- no node gets more than F of the 2M copies
   formatted-used : (n : ℕ) → n < N → used g v n 0 ≡ sum (holding N n) (g .items)
