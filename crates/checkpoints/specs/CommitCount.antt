@@ -1,5 +1,5 @@
 -- How many stores a Commit makes: two for each live node and at most four for each created item.
-use Prim.Native.Nat.{ℕ, zero, suc, _+_, _*_, _≤_, _<_}
+use Prim.Native.Nat.{ℕ, _+_, _*_, _≤_, _<_}
 use mathlib.Core.Path.{_≡_, refl, sym, ap, ap₂, _∙_}
 use mathlib.Core.Bool.{Bool, true, false, cond, _&&_}
 use mathlib.Core.List.{List, [], _∷_, _++_, map}
@@ -8,7 +8,7 @@ use lib.Dec.{eqb}
 use lib.ListN.{length, length-append}
 use borrow.Author.Tests.{eqb-false, eq-eqb, not-true}
 use Rattle.counting.specs.Tests.{by-cases, either, no-both, and-both}
-use Rattle.counting.specs.Counting.{one, sum, sum-le, sum-plus, sum-swap, sum-count, count, count-zero, only-counts}
+use Rattle.counting.specs.Counting.{one, one-le, sum, sum-ext, sum-le, sum-plus, sum-times, sum-swap, sum-count, count, count-zero, only-counts}
 use Rattle.table.specs.declared.geometry.Geometry.{Geometry}
 use Rattle.table.specs.declared.changes.Event.the-variants.{Commit}
 use Rattle.table.specs.Words.{stateForm, invalid, precommit1, precommit2, invCK1, invCK2}
@@ -32,25 +32,15 @@ use Rattle.checkpoints.specs.KindMoved.{not-precommit}
 use Rattle.checkpoints.specs.CommitTheorem.{carried, facts}
 use Rattle.checkpoints.specs.CommitSound.{not-owned}
 
--- four for each that passes a test
-sum-four : (p : ℕ → Bool) (n : ℕ) → sum (λ i. 4 * one (p i)) n ≡ 4 * count p n
-unfolding sum count
-sum-four p zero = refl
-sum-four p (suc n) = omega (arith, sum-four p n)
-
 -- ---- marks
 
 marks-count : (g : Geometry) (v : View) (f : ℕ → ℕ) → length (marksTo g v f) ≡ count (live v) (g .nodes)
-unfolding marksTo markTo sum count
-marks-count g v f = runs-sum (markTo v f) (g .nodes) ∙ each (g .nodes)
+unfolding marksTo markTo
+marks-count g v f = runs-sum (markTo v f) (g .nodes) ∙ sum-ext (g .nodes) _ _ (λ n _. single n (live v n)) ∙ sum-count (live v) (g .nodes)
   where
     single : (n : ℕ) (q : Bool) → length (cond q (markStore n (f (v .mark n)) ∷ []) []) ≡ one q
     single n true = refl
     single n false = refl
-
-    each : (n : ℕ) → sum (λ i. length (markTo v f i)) n ≡ count (live v) n
-    each zero = refl
-    each (suc n) = omega (arith, each n, single n (live v n))
 
 -- ---- entries
 
@@ -73,14 +63,8 @@ module _ (g : Geometry) (v : View) where
       go false false c = refl
 
   nodes-sum : (n m : ℕ) → length (runs (λ i. runs (stores-at i) m) n) ≡ sum (λ i. sum (λ j. stored v j i) m) n
-  unfolding runs sum
-  nodes-sum zero m = refl
-  nodes-sum (suc n) m =
-      omega (arith, length-append (runs (λ i. runs (stores-at i) m) n) (runs (stores-at n) m), nodes-sum n m, items-sum m)
-    where
-      items-sum : (m : ℕ) → length (runs (stores-at n) m) ≡ sum (λ j. stored v j n) m
-      items-sum zero = refl
-      items-sum (suc m) = omega (arith, length-append (runs (stores-at n) m) (stores-at n m), items-sum m, at-one n m)
+  nodes-sum n m =
+      runs-sum (λ i. runs (stores-at i) m) n ∙ sum-ext n _ _ (λ i _. runs-sum (stores-at i) m ∙ sum-ext m _ _ (λ j _. at-one i j))
 
   entries-count : length (entriesTo g v (closeChange Committed)) ≡ sum (λ b. sum (stored v b) (g .nodes)) (g .items)
   unfolding entriesBefore
@@ -105,13 +89,9 @@ module _ (v : View) (N b : ℕ) (forms : (n : ℕ) → n < N → live v n ≡ tr
       dead true x t = absurd (no-both refl t)
       dead false x t = omega arith
 
-      small : (x : Bool) → one x ≤ 1
-      small true = omega arith
-      small false = omega arith
-
       alive : live v n ≡ true → stored v b n ≤ four n
       alive t =
-          let s = small (live v n && commits (v .entry n b)) in
+          let s = one-le (live v n && commits (v .entry n b)) in
           by-cases (commits (v .entry n b))
           (λ c. either (isPrecommit (current (v .entry n b))) c
           (λ p. either (eqb (current (v .entry n b)) precommit1) p
@@ -177,10 +157,11 @@ module _ (g : Geometry) (v : View) (phase number : ℕ) (good : SoundTable g v p
       let c = marks-count g v committedMark in
       let e = entries-count g v in
       let s = sum-le (g .items) (λ b. sum (stored v b) (g .nodes)) (λ b. 4 * one (createdIn g v b)) item-count in
-      let f = sum-four (createdIn g v) (g .items) in
+      let f = sum-times 4 (λ b. one (createdIn g v b)) (g .items) in
+      let k = sum-count (createdIn g v) (g .items) in
       let l₁ = length-append (marksTo g v committingMark) (entriesTo g v (closeChange Committed)) in
       let l₂ = length-append (marksTo g v committingMark ++ entriesTo g v (closeChange Committed)) (marksTo g v committedMark) in
-      omega (arith, a, c, e, s, f, l₁, l₂)
+      omega (arith, a, c, e, s, f, k, l₁, l₂)
 
 -- of a Commit that is carried out
 pub commit-makes :

@@ -7,7 +7,7 @@ use native.Mathlib.Omega.{arith}
 use lib.Dec.{eqb, ltb}
 use lib.ListN.{length}
 use borrow.Author.Tests.{eqb-true, eq-eqb, ltb-true, not-false}
-use Rattle.counting.specs.Tests.{by-cases, other-holds, no-both, or-left, or-right, neither}
+use Rattle.counting.specs.Tests.{by-cases, and-no, other-holds, no-both, or-left, or-right, neither}
 use Rattle.counting.specs.Counting.{every, every-at}
 use Rattle.table.specs.declared.geometry.Geometry.{Geometry}
 use Rattle.table.specs.declared.changes.Event.the-variants.{Commit}
@@ -78,11 +78,7 @@ committed-same e h k =
     rw c refl
 
 no-keep-at : (v : View) (b n : ℕ) → kept (v .entry n b) ≡ 0 → keep v b n ≡ false
-no-keep-at v b n e = go (live v n) (ap not (eq-eqb (kept (v .entry n b)) 0 e))
-  where
-    go : (a : Bool) {x : Bool} → x ≡ false → (a && x) ≡ false
-    go true h = h
-    go false h = refl
+no-keep-at v b n e = and-no (live v n) (ap not (eq-eqb (kept (v .entry n b)) 0 e))
 
 -- "12 a dirty item not created": none is owned
 pub not-owned :

@@ -16,6 +16,7 @@ use Rattle.entries.specs.declared.check.Checked.the-variants.{Passed, Failed}
 use Rattle.entries.specs.Check.{faultOf}
 use Rattle.homes.specs.declared.admission.Admission.{Admission}
 use Rattle.homes.specs.declared.admission.Admission.the-variants.{Admitted, Turned}
+use Rattle.homes.specs.Admission.{asked}
 use Rattle.homes.specs.Plans.{planAdmitted, planChecked, planBy, plan-admitted}
 use Rattle.entries.specs.Dirty.{dirty, dirtyItem}
 use Rattle.checkpoints.specs.Checkpoint.{isOpen, openAdmission}
@@ -56,11 +57,7 @@ none-is-dirty g v e b h = first-least (dirty g v) (g .items) b (omega (arith, lt
 
 admitted-open : (g : Geometry) (v : View) → openAdmission g v ≡ Admitted → isOpen g v ≡ true
 unfolding openAdmission
-admitted-open g v = go (isOpen g v)
-  where
-    go : (q : Bool) → cond q Admitted (Turned NoCheckpoint) ≡ Admitted → q ≡ true
-    go true e = refl
-    go false e = let z : _≡_ {A = ℕ} 0 1 = cc in absurd (omega arith)
+admitted-open g v = asked (isOpen g v) NoCheckpoint
 
 pub nothing-left : (t : List ℕ) → createOf t ≡ nothingLeft → NoneLeft t
 unfolding planBy planChecked planAdmitted

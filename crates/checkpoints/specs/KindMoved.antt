@@ -5,7 +5,7 @@ use mathlib.Core.Bool.{Bool, true, false, not, _&&_, _||_}
 use native.Mathlib.Omega.{arith}
 use lib.Dec.{eqb}
 use borrow.Author.Tests.{eqb-true, eqb-false}
-use Rattle.counting.specs.Tests.{by-cases, both, either, or-right, no-both}
+use Rattle.counting.specs.Tests.{by-cases, and-same, both, either, or-right, no-both}
 use Rattle.counting.specs.Counting.{Only, only-same}
 use Rattle.table.specs.Words.{shared, owner, modified, sharedCK1, sharedCK2, precommit1, precommit2, invCK1, invCK2}
 use Rattle.table.specs.View.{View, live, current, kept}
@@ -15,8 +15,7 @@ use Rattle.checkpoints.specs.Checkpoint.{isPrecommit}
 
 -- a test of live nodes only
 test-same : (a a′ x y : Bool) → a′ ≡ a → (a ≡ true → y ≡ x) → (a′ && y) ≡ (a && x)
-test-same true a′ x y e f = ap (λ q. q && y) e ∙ f refl
-test-same false a′ x y e f = ap (λ q. q && y) e
+test-same a a′ x y e f = ap (λ q. q && y) e ∙ and-same a y x f
 
 -- ---- the codes of a created item's current places, and what becomes of them
 

@@ -25,6 +25,7 @@ use Rattle.homes.specs.declared.admission.Admission.the-variants.{Admitted, Tur
 use Rattle.checkpoints.specs.Checkpoint.{commonMark, isOpen, openAdmission, liveChanges, entriesBefore, entriesTo}
 use Rattle.checkpoints.specs.Open.{startAdmission}
 use Rattle.checkpoints.specs.Commit.{createdAdmission, commitAdmission}
+use Rattle.homes.specs.Admission.{passed, asked}
 use Rattle.homes.specs.Kept.{Live, test-live}
 use Rattle.checkpoints.specs.CommitKept.{live-by, marked}
 use Rattle.homes.specs.SoundKept.{Off, pass-off}
@@ -78,16 +79,12 @@ module _ (g : Geometry) (v : View) (phase number : ℕ) (good : SoundTable g v p
   pub started : startAdmission g v ≡ Admitted → (phase ≡ 0) × (number < 2 ^ 32 - 1)
   unfolding startAdmission isOpen
   started h =
-      let q = passed (eqb (phaseOf (commonMark g v)) 1) (eqb (numberOf (commonMark g v)) (2 ^ 32 - 1)) h in
-      let a = eqb-false (phaseOf (commonMark g v)) 1 (q .0) in
-      let c = eqb-false (numberOf (commonMark g v)) (2 ^ 32 - 1) (q .1) in
+      let (p, h₁) = passed (eqb (phaseOf (commonMark g v)) 1) CheckpointOpen _ h in
+      let (q, _) = passed (eqb (numberOf (commonMark g v)) (2 ^ 32 - 1)) LastNumber _ h₁ in
+      let a = eqb-false (phaseOf (commonMark g v)) 1 p in
+      let c = eqb-false (numberOf (commonMark g v)) (2 ^ 32 - 1) q in
       (omega (arith, good .phase-low, low common-phase a), below· common-number c number-fits)
     where
-      passed : (x y : Bool) → cond x (Turned CheckpointOpen) (cond y (Turned LastNumber) Admitted) ≡ Admitted → (x ≡ false) × (y ≡ false)
-      passed true y e = let z : _≡_ {A = ℕ} 0 1 = cc in absurd (omega arith)
-      passed false true e = let z : _≡_ {A = ℕ} 0 1 = cc in absurd (omega arith)
-      passed false false e = (refl, refl)
-
       low : {a : ℕ} → a ≡ phase → (a ≡ 1 → ⊥) → phase ≡ 1 → ⊥
       low e d z = d (e ∙ z)
 
@@ -97,11 +94,7 @@ module _ (g : Geometry) (v : View) (phase number : ℕ) (good : SoundTable g v p
   -- "8"
   pub opened : openAdmission g v ≡ Admitted → phase ≡ 1
   unfolding openAdmission isOpen
-  opened h = sym common-phase ∙ eqb-true (phaseOf (commonMark g v)) 1 (passed (eqb (phaseOf (commonMark g v)) 1) h)
-    where
-      passed : (x : Bool) → cond x Admitted (Turned NoCheckpoint) ≡ Admitted → x ≡ true
-      passed true e = refl
-      passed false e = let z : _≡_ {A = ℕ} 0 1 = cc in absurd (omega arith)
+  opened h = sym common-phase ∙ eqb-true (phaseOf (commonMark g v)) 1 (asked (eqb (phaseOf (commonMark g v)) 1) NoCheckpoint h)
 
   pub commit-opened : commitAdmission g v ≡ Admitted → phase ≡ 1
   unfolding createdAdmission

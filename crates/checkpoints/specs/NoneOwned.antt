@@ -1,10 +1,10 @@
 -- What Commit's admission tells: no live copy is Owner or Modified. "12 a dirty item not created"
 use Prim.Native.Nat.{ℕ, _<_}
-use mathlib.Core.Path.{_≡_, refl}
-use mathlib.Core.Bool.{Bool, true, false, cond, not}
+use mathlib.Core.Path.{_≡_}
+use mathlib.Core.Bool.{false, not}
 use native.Mathlib.Omega.{arith}
 use lib.Dec.{ltb}
-use borrow.Author.Tests.{ltb-false}
+use borrow.Author.Tests.{ltb-false, not-true}
 use Rattle.counting.specs.Tests.{and-no-right}
 use Rattle.counting.specs.First.{first-least}
 use Rattle.table.specs.declared.geometry.Geometry.{Geometry}
@@ -15,6 +15,7 @@ use Rattle.homes.specs.declared.admission.Admission.the-variants.{Admitted, Tur
 use Rattle.entries.specs.Dirty.{owns, ownsAt, ownerOf, dirty, dirtyItem}
 use Rattle.checkpoints.specs.Checkpoint.{openAdmission}
 use Rattle.checkpoints.specs.Commit.{createdAdmission, commitAdmission}
+use Rattle.homes.specs.Admission.{asked}
 use Rattle.homes.specs.Kept.{Live, live-test}
 
 module _ (g : Geometry) (v : View) where
@@ -22,13 +23,9 @@ module _ (g : Geometry) (v : View) where
   unfolding createdAdmission
   none-dirty = go (openAdmission g v)
     where
-      passed : (q : Bool) → cond (not q) Admitted (Turned NotCreated) ≡ Admitted → q ≡ false
-      passed true e = let z : _≡_ {A = ℕ} 0 1 = cc in absurd (omega arith)
-      passed false e = refl
-
       go : (a : Admission) → createdAdmission g v a ≡ Admitted → ltb (dirtyItem g v) (g .items) ≡ false
       go (Turned x) e = let z : _≡_ {A = ℕ} 0 1 = cc in absurd (omega arith)
-      go Admitted e = passed (ltb (dirtyItem g v) (g .items)) e
+      go Admitted e = not-true (ltb (dirtyItem g v) (g .items)) (asked (not (ltb (dirtyItem g v) (g .items))) NotCreated e)
 
   not-dirty : ltb (dirtyItem g v) (g .items) ≡ false → (b : ℕ) → b < g .items → dirty g v b ≡ false
   unfolding dirtyItem
