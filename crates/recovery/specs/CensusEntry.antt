@@ -2,17 +2,17 @@
 use Prim.Native.Nat.{ℕ, _+_, _*_, _/_, _%_, _^_, _≤_, _<_}
 use mathlib.Core.Path.{_≡_, refl, sym, ap, _∙_}
 use mathlib.Core.Logic.{_≢_}
-use mathlib.Core.Bool.{Bool, true, false, cond, not, _&&_, _||_}
+use mathlib.Core.Bool.{Bool, true, false, cond, not, _&&_, _||_, and-comm}
 use mathlib.Core.List.{List}
 use native.Mathlib.Omega.{arith}
 use native.Mathlib.Decide.{ℕ-discrete}
 use lib.Bits.{bitXor}
 use lib.Dec.{eqb}
 use lib.ListN.{getD, set}
-use borrow.Author.Tests.{eq-eqb, ne-eqb}
+use borrow.Author.Tests.{eqb-true, eq-eqb, ne-eqb}
 use Rattle.counting.specs.Tests.{by-cases, no-both}
 use Rattle.counting.specs.Differences.{none-differ}
-use Rattle.counting.specs.Counting.{every, every-at, one}
+use Rattle.counting.specs.Counting.{every, every-at, one, one-le, one-same}
 use Rattle.table.specs.Geometry.{product}
 use Rattle.table.specs.Words.{currentOf, keptOf}
 use Rattle.table.specs.View.{Entry, current, kept}
@@ -25,10 +25,6 @@ use Rattle.checkpoints.specs.Forward.{by-number, forward-value}
 use Rattle.recovery.specs.Sides.{copyOn}
 use Rattle.recovery.specs.Notes.{hasOn, numberWeight, number-small}
 use Rattle.recovery.specs.Census.{numberOn, placeOn, sideBits, Weighed, entryFrom, EntryNoted}
-
-pub one-small : (b : Bool) → one b ≤ 1
-one-small true = omega arith
-one-small false = omega arith
 
 -- ---- an entry's codes on a side
 
@@ -59,17 +55,7 @@ place-small false c k = by-cases (eqb c 4 || eqb c 5) (λ z. rw z (omega arith))
 -- a number has a weight unless it is 0
 weight-zero : (k : ℕ) → k < 4 → eqb (numberWeight k) 0 ≡ eqb k 0
 unfolding every
-weight-zero k h = same (eqb (numberWeight k) 0) (eqb k 0) (every-at 4 (λ k. not (xor (eqb (numberWeight k) 0) (eqb k 0))) refl k h)
-  where
-    xor : Bool → Bool → Bool
-    xor true q = not q
-    xor false q = q
-
-    same : (p q : Bool) → not (xor p q) ≡ true → p ≡ q
-    same true true h = refl
-    same true false h = absurd (no-both h refl)
-    same false true h = absurd (no-both h refl)
-    same false false h = refl
+weight-zero k h = one-same _ _ (eqb-true _ _ (every-at 4 (λ k. eqb (one (eqb (numberWeight k) 0)) (one (eqb k 0))) refl k h))
 
 -- ---- its weight
 
@@ -102,23 +88,21 @@ module _ (forward : Bool) (w : ℕ) {r : ℕ} (h : r ≡ sideBits forward (topOf
     frames-few = frames-two w;
     first-few = omega arith;
     second-few = omega arith;
-    out-few = one-small (not (codesForm (topOf w)));
+    out-few = one-le (not (codesForm (topOf w)));
     place-few = place-small forward (topOf w / 4) (topOf w % 4);
-    has-few = one-small (not (eqb numberBy 0));
+    has-few = one-le (not (eqb numberBy 0));
     number = λ e s. ap (λ k. numberWeight k) (codes-number e s);
     some = λ e s. ap not (sym (weight-zero (copyNumber (copyOn forward e)) (number-small forward e))) ∙ ap (λ k. not (eqb (numberWeight k) 0)) (codes-number e s);
     held = λ e s. ap (λ k. one (not (eqb k 0))) (sym (codes-number e s));
     value = λ e s d.
         value-on forward e (λ z. no-both d (ap (λ k. not (eqb k 0)) (number-on forward e ∙ z)))
         ∙ ap (λ x. cond (eqb x 0) (e .value) (e .keptValue)) (codes-place e s);
-    form = form-parts w ∙ swapped (eqb (w % 2 ^ 58) 0) (codesForm (topOf w));
+    form = form-parts w ∙ and-comm (eqb (w % 2 ^ 58) 0) (codesForm (topOf w)) ∙ ap (λ q. q && eqb (w % 2 ^ 58) 0) (none-out (codesForm (topOf w)));
   }
     where
-      swapped : (low codes : Bool) → (low && codes) ≡ (eqb (one (not codes)) 0 && low)
-      swapped true true = refl
-      swapped true false = refl
-      swapped false true = refl
-      swapped false false = refl
+      none-out : (q : Bool) → q ≡ eqb (one (not q)) 0
+      none-out true = refl
+      none-out false = refl
 
 -- ---- what the code makes of an entry
 

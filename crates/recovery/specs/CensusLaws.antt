@@ -1,7 +1,7 @@
 -- The census as the code goes: a law for each turn and each way out.
-use Prim.Native.Nat.{ℕ, zero, suc, _+_, _*_, _/_, _%_, _^_, _≤_, _<_}
+use Prim.Native.Nat.{ℕ, _+_, _*_, _/_, _%_, _^_, _≤_, _<_}
 use mathlib.Core.Path.{_≡_, refl, sym, ap, ap₂, subst, _∙_}
-use mathlib.Core.Bool.{Bool, true, false, _&&_}
+use mathlib.Core.Bool.{Bool, true, false, _&&_, and-true, and-comm}
 use mathlib.Core.List.{List}
 use native.Mathlib.Omega.{arith}
 use native.Mathlib.Decide.{ℕ-discrete}
@@ -10,9 +10,10 @@ use lib.Dec.{eqb, leb}
 use lib.ListN.{length, getD, set, length-set}
 use lib.Seq.{getD-set-same, getD-set-other}
 use borrow.Author.Tests.{lt-ltb, eq-eqb, ne-eqb}
-use Rattle.counting.specs.Tests.{by-cases, and-both, and-true, no-both}
+use Rattle.counting.specs.Tests.{by-cases, and-both, and-mixed, no-both, none-added}
 use Rattle.counting.specs.Differences.{none-gathered}
-use Rattle.counting.specs.Counting.{every, sum, sum-none, sum-next, one, count, count-none, count-next}
+use Rattle.counting.specs.Counting.{every, every-and, sum, sum-none, sum-next, one, count, count-none, count-next}
+use Rattle.counting.specs.Crowded.{sum-most}
 use Rattle.table.specs.declared.geometry.Geometry.{Geometry}
 use Rattle.table.specs.Geometry.{entryAt, Placed, product}
 use Rattle.table.specs.Words.{markForm}
@@ -31,7 +32,7 @@ use Rattle.survivors.specs.SurvivorsCode.{survivor-entry}
 use Rattle.recovery.specs.Sides.{copyOn}
 use Rattle.recovery.specs.Rows.{stateIn, Listed, reached, reached-start, reached-next, listed-turn, listed-end, row-room}
 use Rattle.recovery.specs.RowsSound.{RowTo, row-start, row-turn, row-all, row-sound}
-use Rattle.recovery.specs.Notes.{hasOn, numberWeight, stepOf, NotedTo, Notable, noted-start, noted-rooms, noted-same, noted-turn, noted-all, note-dead, note-live, equalTo, equal-dead, equal-live, number-blank, every-and, note-zeros, notes-fit}
+use Rattle.recovery.specs.Notes.{hasOn, numberWeight, stepOf, NotedTo, Notable, noted-start, noted-rooms, noted-same, noted-turn, noted-all, note-dead, note-live, equalTo, equal-dead, equal-live, number-blank, note-zeros, notes-fit}
 use Rattle.recovery.specs.Census.{entryFrom, EntryNoted, RowReady, RowNoted, sideWeight, heldOn, Takable, CensusTo, NodeReady, NodeNoted, NodesNoted, KindsTold, TakenIn}
 
 -- ---- a row
@@ -107,22 +108,9 @@ module _ (forward : Bool) (v : View) (n : ℕ) where
 
 -- the tests of forms, in the order in which the code makes them
 forms-turn : (low here : Bool) (out more : ℕ) → ((low && eqb out 0) && (eqb more 0 && here)) ≡ ((low && here) && eqb (out + more) 0)
-forms-turn low here out more = elim (ℕ-discrete out 0) [
-  | yes z ↦ (let q : 0 + more ≡ more = omega arith in rw (z, q) (go low here (eqb more 0)))
-  | no z ↦ (let q : eqb (out + more) 0 ≡ false = ne-eqb _ 0 (λ (e : out + more ≡ 0). z (omega arith)) in rw (ne-eqb out 0 z, q) (none low here (eqb more 0)))
-]
-  where
-    go : (a b c : Bool) → ((a && true) && (c && b)) ≡ ((a && b) && c)
-    go true true true = refl
-    go true true false = refl
-    go true false true = refl
-    go true false false = refl
-    go false b c = refl
-
-    none : (a b c : Bool) → ((a && false) && (c && b)) ≡ ((a && b) && false)
-    none true true c = refl
-    none true false c = refl
-    none false b c = refl
+forms-turn low here out more =
+    ap (λ q. (low && eqb out 0) && q) (and-comm (eqb more 0) here)
+    ∙ and-mixed low (eqb out 0) here (eqb more 0) ∙ ap (λ q. (low && here) && q) (sym (none-added out more))
 
 module _ (g : Geometry) (forward : Bool) (n : ℕ) (t : List ℕ) {start : ℕ} {l : List ℕ} {many : ℕ} {s s′ f f′ : List ℕ} {low sum differ : ℕ}
     (o : RowListed g n t start l many s f) (k : ℕ) (p : RowPassed forward (view g t) n (reached l k) s s′ f f′ low sum differ) where
@@ -220,11 +208,6 @@ weight-small forward w b n h = by-cases (live w n)
     rw e (omega (arith, product 1025 (2 ^ 29) few near)))
     (λ e. rw e (omega arith))
 
-tally-le : (forward : Bool) (w : View) (b n : ℕ) → n ≤ 256 → sum (sideWeight forward w b) n ≤ 2 ^ 40 * n
-unfolding sum
-tally-le forward w b zero h = omega arith
-tally-le forward w b (suc n) h = omega (arith, tally-le forward w b n (omega arith), weight-small forward w b n (omega arith))
-
 pub row-ready :
     (g : Geometry) (forward : Bool) (w : View) (n : ℕ) {t l s f u : List ℕ} → n < 256 → NodeReady g forward w n t l s f u → RowReady g n t l s f
 row-ready g forward w n h r = record {
@@ -234,7 +217,7 @@ row-ready g forward w n h r = record {
   tallies-room = r .before .noted .tallies-room;
   firsts-room = r .before .noted .firsts-room;
   sized = r .sized;
-  few = λ j l. omega (arith, r .before .tally j l, tally-le forward w j n (omega arith));
+  few = λ j l. omega (arith, r .before .tally j l, sum-most n (2 ^ 40) (sideWeight forward w j) (λ k q. weight-small forward w j k (omega arith)));
 }
 
 module _ (g : Geometry) (forward : Bool) (lost : Lost) (v : View) (n : ℕ) {mark : ℕ} {form : Bool} (h : mark ≡ survivors lost v .mark n) (m : form ≡ markForm mark)

@@ -1,16 +1,16 @@
 -- The recovery copies of each item, noted by rows: the first value, and a tally, which is 0 while there is none.
-use Prim.Native.Nat.{ℕ, zero, suc, _+_, _*_, _/_, _%_, _^_, _≤_, _<_}
+use Prim.Native.Nat.{ℕ, _+_, _*_, _/_, _%_, _^_, _≤_, _<_}
 use mathlib.Core.Path.{_≡_, refl, sym, ap, ap₂, _∙_}
-use mathlib.Core.Bool.{Bool, true, false, cond, not, _&&_, _||_}
+use mathlib.Core.Bool.{Bool, true, false, cond, not, _&&_, _||_, and-true}
 use mathlib.Core.List.{List}
 use native.Mathlib.Omega.{arith}
 use lib.Dec.{eqb, leb}
 use lib.ListN.{length, getD, set}
 use borrow.Author.Tests.{eq-eqb, ne-eqb, eqb-true, leb-true}
-use Rattle.counting.specs.Tests.{by-cases, and-true, other-holds}
+use Rattle.counting.specs.Tests.{by-cases, other-holds}
 use Rattle.counting.specs.declared.values.Values.{Values}
-use Rattle.counting.specs.Counting.{every, every-at, every-none, every-next, every-ext, every-all}
-use Rattle.counting.specs.Values.{metOf}
+use Rattle.counting.specs.Counting.{every, every-at, every-none, every-next, every-ext, every-and, every-all}
+use Rattle.counting.specs.Values.{metOf, met-seen as met-some}
 use Rattle.table.specs.declared.geometry.Geometry.{Geometry}
 use Rattle.table.specs.declared.changes.Event.the-variants.{RollForward}
 use Rattle.table.specs.Changes.{changeOf, checkpointOf, checkpoint-low}
@@ -147,17 +147,6 @@ pub record Noted (g : Geometry) (forward : Bool) (w : View) (n : ℕ) (firsts ta
 unfoldable pub equalTo : Geometry → Bool → View → ℕ → Bool
 equalTo g forward w n = every (λ j. copiesTo forward w j n .equal) (g .items)
 
-pub every-and : (p q : ℕ → Bool) (n : ℕ) → (every p n && every q n) ≡ every (λ j. p j && q j) n
-unfolding every
-every-and p q zero = refl
-every-and p q (suc n) = and-swap (every p n) (p n) (every q n) (q n) ∙ ap (λ x. x && (p n && q n)) (every-and p q n)
-  where
-    and-swap : (a b c d : Bool) → ((a && b) && (c && d)) ≡ ((a && c) && (b && d))
-    and-swap true true c d = refl
-    and-swap true false true d = refl
-    and-swap true false false d = refl
-    and-swap false b c d = refl
-
 module _ (forward : Bool) (lost : Lost) (v : View) (j n : ℕ) {mark : ℕ} (h : mark ≡ survivors lost v .mark n) where
   copies-dead : mark ≡ 0 → copiesTo forward (survivors lost v) j (n + 1) ≡ copiesTo forward (survivors lost v) j n
   copies-dead d = copies-next forward (survivors lost v) j n ∙ rw (← h, eq-eqb mark 0 d) refl
@@ -197,9 +186,6 @@ met-seen number n s x tally h f =
     (λ p. let z : tally + numberWeight number * stepOf n ≡ tally = omega (arith, ap (λ k. numberWeight k * stepOf n) (eqb-true number 0 p)) in rw (p, z) f)
     (λ p. let some = step-some (numberWeight number) n (weight-some number h p) in
     rw (p, ne-eqb (tally + numberWeight number * stepOf n) 0 (λ (q : tally + numberWeight number * stepOf n ≡ 0). omega (arith, some))) (sym (met-some s x)))
-  where
-    met-some : (s : Values) (x : ℕ) → metOf s x .seen ≡ true
-    met-some s x = by-cases (s .seen) (λ q. rw q refl) (λ q. rw q refl)
 
 module _ (g : Geometry) (forward : Bool) (lost : Lost) (v : View) (n : ℕ) {mark : ℕ} (h : mark ≡ survivors lost v .mark n) where
   pub equal-dead : mark ≡ 0 → {equal : Bool} → equal ≡ equalTo g forward (survivors lost v) n → (equal && true) ≡ equalTo g forward (survivors lost v) (n + 1)

@@ -16,7 +16,7 @@ use Rattle.entries.specs.Tally.{has, copy}
 use Rattle.entries.specs.Kinds.{has-live, has-code, has-at, has-copy, copy-live, copy-code}
 use Rattle.recovery.specs.Rolling.{sharedCK}
 use Rattle.recovery.specs.Numbering.{holders, numberAfter, numberAt}
-use Rattle.counting.specs.First.{first, first-below, first-passes}
+use Rattle.counting.specs.First.{first-only}
 use Rattle.recovery.specs.Partners.{holderOf}
 use Rattle.recovery.specs.Tallies.{holdersOf, Holder}
 use Rattle.recovery.specs.Ready.{Paired, Numbered, pair, alone}
@@ -55,10 +55,6 @@ pub record Told (g : Geometry) (u x : View) (b : ℕ) : Type 0 where
   pub many : 1 < holdersOf g u b → count (copy x b) (g .nodes) ≢ 1
   pub single : holdersOf g u b ≤ 1 → count (copy x b) (g .nodes) ≡ 1
   pub holder : holdersOf g u b ≤ 1 → {m : ℕ} → Holder g u b m → m ≡ holderOf g x b
-
--- the only one that passes is found
-first-only : (n : ℕ) (f : ℕ → Bool) (m : ℕ) → Only n f m → first f n ≡ m
-first-only n f m o = let l = first-below f n m (o .within) (o .holds) in o .alone (first f n) l (first-passes f n l)
 
 module _ (g : Geometry) (u x : View) (b : ℕ) (same : x .mark ≡ u .mark) (ends : (n : ℕ) → n < g .nodes → NumberEnd g u n b (x .entry n b)) where
   same-live : (n : ℕ) → live x n ≡ live u n

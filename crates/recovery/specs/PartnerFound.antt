@@ -10,7 +10,7 @@ use lib.Dec.{eqb, ltb}
 use borrow.Author.Tests.{eqb-true, eq-eqb, ltb-true, ltb-false}
 use Rattle.counting.specs.Tests.{both, no-both, by-cases, or-left, or-right, and-no-right}
 use Rattle.counting.specs.Counting.{one, sum, sum-ext, count, Only, only-counts, sum-swap, sum-count}
-use Rattle.counting.specs.First.{first, first-found, first-none, first-least, first-passes}
+use Rattle.counting.specs.First.{first, first-least, first-passes}
 use Rattle.table.specs.declared.geometry.Geometry.{Geometry}
 use Rattle.table.specs.Words.{invalid, sharedCK1, sharedCK2}
 use Rattle.table.specs.Changes.{checkpoint-code}
@@ -32,13 +32,6 @@ pub room-of : (g : Geometry) (k : ℕ) → tooFewWith g k ≡ false → 2 * g .i
 unfolding tooFewWith
 room-of g k h =
     by-cases (ltb ((k - 1) * g .frames) (2 * g .items - 1)) (λ e. absurd (no-both (or-right (ltb k 2) e) h)) (λ e. ltb-false _ _ e)
-
--- the first that passes, where one alone does
-pub only-first : (n : ℕ) (p : ℕ → Bool) (m : ℕ) → Only n p m → first p n ≡ m
-only-first n p m o =
-    first-found p m n
-    (first-none p m (λ k l. by-cases (p k) (λ e. absurd (let q = o .alone k (omega (arith, o .within)) e in omega arith)) (λ e. e)))
-    (o .holds) (o .within)
 
 module _ (g : Geometry) (saved : ℕ → ℕ) (w u : View) (plain : Plain g saved w u) where
   -- how many copies node n has

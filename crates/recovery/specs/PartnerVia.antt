@@ -9,6 +9,7 @@ use native.Mathlib.Decide.{ℕ-discrete}
 use lib.Dec.{eqb}
 use borrow.Author.Tests.{ne-eqb}
 use Rattle.counting.specs.Counting.{Only, only-same, only-counts}
+use Rattle.counting.specs.First.{first-only}
 use Rattle.table.specs.declared.geometry.Geometry.{Geometry}
 use Rattle.table.specs.Words.{invalid, sharedCK1, sharedCK2, stateWord, current-state, kept-state}
 use Rattle.table.specs.Forms.{alone-form}
@@ -27,7 +28,7 @@ use Rattle.survivors.specs.Survivors.{tooFew}
 use Rattle.recovery.specs.Rolling.{sharedCK}
 use Rattle.recovery.specs.Partners.{single, holderOf, partnerOf, partnerChanges, partnerFrom, partnerStores, partnersStores}
 use Rattle.recovery.specs.Ready.{PlainEntry, HasOne, Plain, Paired, Numbered, pair, alone}
-use Rattle.recovery.specs.PartnerFound.{only-first, coded, pair-copies, partner-found}
+use Rattle.recovery.specs.PartnerFound.{coded, pair-copies, partner-found}
 use Rattle.recovery.specs.StagedVia.{via-staged}
 
 -- ---- an item of which no entry has changed
@@ -219,7 +220,7 @@ module _ (g : Geometry) (saved : ℕ → ℕ) (w : View) (enough : tooFew g w �
         let h = partnerOf g u b a in
         let c = coded g saved w u plain b a hb (o .within) (o .holds) in
         let x = plain .entries a b (test-live g u a (o .within) (copy-live u b a (o .holds))) hb .value (copy-code u b a (o .holds)) in
-        rw (only-counts (g .nodes) (copy u b) a o, only-first (g .nodes) (copy u b) a o, ne-eqb h a (f .other))
+        rw (only-counts (g .nodes) (copy u b) a o, first-only (g .nodes) (copy u b) a o, ne-eqb h a (f .other))
         (via-weaken
         (taken-via g saved w u plain b h hb (f .alive) (f .empty) (f .free) (u .entry a b) x (absent (current (u .entry a b)) c))
         (λ v p r.

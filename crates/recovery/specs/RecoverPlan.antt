@@ -17,6 +17,7 @@ use Rattle.entries.specs.declared.check.Checked.the-variants.{Passed, Failed}
 use Rattle.entries.specs.Check.{sizesOf}
 use Rattle.homes.specs.declared.admission.Admission.{Admission}
 use Rattle.homes.specs.declared.admission.Admission.the-variants.{Admitted, Turned}
+use Rattle.homes.specs.Admission.{passed}
 use Rattle.homes.specs.Plans.{planAdmitted}
 use Rattle.survivors.specs.declared.lost.Lost.{Lost}
 use Rattle.survivors.specs.Survivors.{survivors, lostOutside, tooFew}
@@ -35,11 +36,6 @@ pub record Carries (t : List ℕ) (lost : Lost) (scratch : ℕ) (g : Geometry) (
 
 pub refused-not : {r : Refusal} {g : Geometry} {x : ℕ} {ss : List Store} → refuse r ≡ carry g x ss → ⊥
 refused-not e = let z : _≡_ {A = ℕ} 0 1 = cc in omega arith
-
--- a refusal that is the next one: it does not hold, and what comes after it is admitted
-next : (a : Bool) (r : Refusal) (p : Admission) → cond a (Turned r) p ≡ Admitted → (a ≡ false) × (p ≡ Admitted)
-next true r p e = let z : _≡_ {A = ℕ} 0 1 = cc in absurd (omega arith)
-next false r p e = (refl, e)
 
 admitted-plan :
     (a : Admission) {p : Plan} {g : Geometry} {x : ℕ} {ss : List Store} → planAdmitted a p ≡ carry g x ss → (a ≡ Admitted) × (p ≡ carry g x ss)
@@ -68,11 +64,11 @@ pub record Admits (g : Geometry) (w : View) (lost : Lost) (scratch : ℕ) : Type
 pub admission-admits : (g : Geometry) (w : View) (lost : Lost) (scratch : ℕ) → recoverAdmission g w lost scratch ≡ Admitted → Admits g w lost scratch
 unfolding recoverAdmission
 admission-admits g w lost scratch q =
-    let (a, e₁) = next (lostOutside g lost) NoNode _ q in
-    let (b, e₂) = next (ltb scratch (scratchWords g)) ShortScratch _ e₁ in
-    let (c, e₃) = next (not (survivorsFormed g w)) NotSound _ e₂ in
-    let (d, e₄) = next (tooFew g w) TooFewNodes _ e₃ in
-    let (f, _) = next (not (itemsFit g w)) NoRecoveryCopy _ e₄ in
+    let (a, e₁) = passed (lostOutside g lost) NoNode _ q in
+    let (b, e₂) = passed (ltb scratch (scratchWords g)) ShortScratch _ e₁ in
+    let (c, e₃) = passed (not (survivorsFormed g w)) NotSound _ e₂ in
+    let (d, e₄) = passed (tooFew g w) TooFewNodes _ e₃ in
+    let (f, _) = passed (not (itemsFit g w)) NoRecoveryCopy _ e₄ in
     record { inside = a; enough = ltb-false _ _ b; formed = not-false _ c; enoughNodes = d; fit = not-false _ f }
 
 module _ (t : List ℕ) (lost : Lost) (scratch : ℕ) where

@@ -1,7 +1,7 @@
 -- The occupied entries of a node, as the code lists them, and the passes over a list in the place of all items.
 use Prim.Native.Nat.{ℕ, zero, suc, _+_, _*_, _-_, _<_, _≤_}
 use mathlib.Core.Path.{_≡_, refl, sym, ap, _∙_}
-use mathlib.Core.Bool.{Bool, true, false, not}
+use mathlib.Core.Bool.{not}
 use mathlib.Core.List.{List}
 use native.Mathlib.Omega.{arith}
 use native.Mathlib.Decide.{ℕ-discrete}
@@ -12,6 +12,7 @@ use lib.Dec.{eqb}
 use lib.ListN.{length, getD, set, length-set}
 use lib.Seq.{getD-set-same, getD-set-other}
 use Rattle.counting.specs.Tests.{by-cases, and-both}
+use Rattle.counting.specs.Counting.{bit-counted}
 use borrow.Author.Tests.{eqb-true, lt-ltb}
 use Rattle.table.specs.declared.geometry.Geometry.{Geometry}
 use Rattle.table.specs.Geometry.{wordsOf, entryAt, Placed, entry-within}
@@ -127,10 +128,6 @@ module _ (f : ℕ → ℕ) (m : ℕ) {l l′ : List ℕ} {r : ℕ} (h : Listing 
       (λ q. let z : r + 0 ≡ r = omega arith in rw (q, z) (listing-skip (sym e ∙ eqb-true w 0 q)))
       (λ q. rw q listing-add)
 
-pub byte-small : (b : Bool) → boolByte b ≤ 1
-byte-small true = omega arith
-byte-small false = omega arith
-
 pub listing-ends : (f : ℕ → ℕ) {i m : ℕ} {l l′ : List ℕ} {r : ℕ} → i ≤ m → m ≤ i → Listing f i l l′ r → Listing f m l l′ r
 listing-ends f {i} {m} h k o = let e : i ≡ m = omega arith in rw e at o
 
@@ -152,7 +149,7 @@ pub record ListedMore (t : List ℕ) (at item n : ℕ) (l l′ : List ℕ) (r r�
 pub listed-one : (t : List ℕ) (at item : ℕ) {l : List ℕ} {r w : ℕ} → w ≡ getD t at 0 → ListedMore t at item 1 l (set l r item) r (r + boolByte (not (eqb w 0)))
 listed-one t at item {l} {r} {w} e = record {
   lists = λ start a room o. listing-turn (rowState t start) item o (omega arith) (row-read t start item a e);
-  few = omega (arith, byte-small (not (eqb w 0)));
+  few = omega (arith, bit-counted (not (eqb w 0)) .small);
   size = length-set l r item;
 }
 

@@ -1,8 +1,8 @@
 -- The tally of an item: how many survivors hold it as Shared-CK1, 1024 times how many as Shared-CK2, and 2^20 times the holders' node numbers, those of
 -- Shared-CK2 times 1024. An item with at most one holder of each number, with nothing kept, has no copy that numbering changes; of a single copy the tally
 -- tells the holder.
-use Prim.Native.Nat.{ℕ, zero, suc, _+_, _*_, _/_, _%_, _^_, _<_}
-use mathlib.Core.Path.{_≡_, refl, sym, ap, _∙_}
+use Prim.Native.Nat.{ℕ, _+_, _*_, _/_, _%_, _^_, _<_}
+use mathlib.Core.Path.{_≡_, refl, ap, _∙_}
 use mathlib.Core.Bool.{Bool, true, false, _&&_, _||_}
 use mathlib.Core.List.{List, []}
 use native.Mathlib.Omega.{arith}
@@ -13,6 +13,7 @@ use borrow.Author.Tests.{eq-eqb, ne-eqb, ltb-true}
 use Rattle.counting.specs.Tests.{both, by-cases}
 use Rattle.counting.specs.Counting.{one, sum, count, count-le, none-counted, only}
 use Rattle.counting.specs.Ranks.{count-above}
+use Rattle.counting.specs.Crowded.{sum-only}
 use Rattle.table.specs.declared.geometry.Geometry.{Geometry}
 use Rattle.table.specs.View.{View, live, current, kept}
 use Rattle.entries.specs.Tally.{has}
@@ -48,19 +49,6 @@ holdersBy tally = tally % 1024 + tally / 1024 % 1024
 
 abbrev pub holderBy : ℕ → ℕ
 holderBy tally = tally / 2 ^ 20 % 1024 + tally / 2 ^ 30
-
--- a sum of which all but one are 0
-sum-only : (n : ℕ) (f : ℕ → ℕ) (m : ℕ) → m < n → ((k : ℕ) → k < n → (k ≡ m → ⊥) → f k ≡ 0) → sum f n ≡ f m
-unfolding sum
-sum-only zero f m l h = absurd (omega arith)
-sum-only (suc n) f m l h = elim (ℕ-discrete m n) [
-  | yes e ↦ (let z = sum-zero n (λ k q. h k (omega arith) (λ (d : k ≡ m). omega arith)) in rw e (omega (arith, z)))
-  | no e ↦ omega (arith, sum-only n f m (omega arith) (λ k q. h k (omega arith)), h n (omega arith) (λ (d : n ≡ m). e (sym d)))
-]
-  where
-    sum-zero : (n : ℕ) → ((k : ℕ) → k < n → f k ≡ 0) → sum f n ≡ 0
-    sum-zero zero h = refl
-    sum-zero (suc n) h = omega (arith, sum-zero n (λ k q. h k (omega arith)), h n (omega arith))
 
 -- item b's only copy: node m's, where the others have none
 only-nodes :

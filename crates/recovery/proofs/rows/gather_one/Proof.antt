@@ -4,14 +4,15 @@ use mathlib.Core.Bool.{not}
 use lib.Dec.{eqb}
 use lib.ListN.{getD}
 use borrow.Author.Needs.{needs}
-use Rattle.recovery.specs.Rows.{listed-one, byte-small}
+use Rattle.counting.specs.Counting.{bit-counted}
+use Rattle.recovery.specs.Rows.{listed-one}
 use Rattle.recovery.proofs.rows.gather_one.Statement.{statement}
 use Rattle.recovery.proofs.rows.gather_one.Tie as tie
 
 add-result : tie.Need-add-result
 add-result c =
     let a = c .before .args in
-    let b = byte-small (not (eqb (getD (a .table .now) (a .at) 0) 0)) in
+    let b = bit-counted (not (eqb (getD (a .table .now) (a .at) 0) 0)) .small in
     search needs
 
 pub gather-one-spec : {M : Type 1} → statement M
