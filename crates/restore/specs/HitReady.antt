@@ -2,7 +2,7 @@
 use Prim.Native.Nat.{ℕ, _+_, _*_, _≤_, _<_}
 use mathlib.Core.Path.{_≡_, refl, ap, _∙_, fun-ext}
 use mathlib.Core.Logic.{_≢_}
-use mathlib.Core.Bool.{Bool, true, false, cond, _&&_}
+use mathlib.Core.Bool.{true, false, cond}
 use mathlib.Core.List.{List}
 use native.Mathlib.Omega.{arith}
 use native.Mathlib.Decide.{ℕ-discrete, decLt}
@@ -11,7 +11,7 @@ use lib.Arith.{digits-lt}
 use lib.Dec.{leb, ltb}
 use lib.ListN.{getD}
 use borrow.Author.Tests.{eq-eqb, ne-eqb, lt-leb, le-ltb, ltb-true}
-use Rattle.counting.specs.Tests.{by-cases, no-both}
+use Rattle.counting.specs.Tests.{by-cases, no-both, and-no}
 use Rattle.table.specs.declared.geometry.Geometry.{Geometry}
 use Rattle.table.specs.Geometry.{markAt, entryAt}
 use Rattle.table.specs.View.{View, view, live, there, entryIn, blank}
@@ -52,10 +52,6 @@ ready-same g saved number w u m e r =
 
 -- ---- words of another node
 
-and-false : (a : Bool) {b : Bool} → b ≡ false → (a && b) ≡ false
-and-false true h = h
-and-false false h = refl
-
 -- every word as it was
 same-view : (g : Geometry) (t t′ : List ℕ) → ((i : ℕ) → getD t′ i 0 ≡ getD t i 0) → view g t′ ≡ view g t
 unfolding view
@@ -72,7 +68,7 @@ module _ (g : Geometry) (lost : ℕ) (inside : lost < g .nodes) where
   entry-of-other n b i hb d hi = rw (ne-eqb (entryAt g n b + i) (markAt lost) (λ e. omega arith)) (elim (decLt n lost) [
     | yes l ↦ (let k = digits-lt l hb in rw (lt-leb (entryAt g lost 0) (entryAt g n b + i) (omega arith)) refl)
     | no l ↦ (let k : (lost + 1) * g .items ≤ n * g .items = mul-le-mul-right (g .items) (omega arith) in
-        and-false (leb (entryAt g lost 0) (entryAt g n b + i)) (le-ltb (entryAt g n b + i) (entryAt g (lost + 1) 0) (omega arith)))
+        and-no (leb (entryAt g lost 0) (entryAt g n b + i)) (le-ltb (entryAt g n b + i) (entryAt g (lost + 1) 0) (omega arith)))
   ])
 
   module _ (t t′ : List ℕ) (rest : (i : ℕ) → ofNode g lost i ≡ false → getD t′ i 0 ≡ getD t i 0) where
