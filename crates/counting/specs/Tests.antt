@@ -23,14 +23,6 @@ pub and-same : (a x y : Bool) → (a ≡ true → x ≡ y) → (a && x) ≡ (a &
 and-same true x y f = f refl
 and-same false x y f = refl
 
-pub and-true : (a : Bool) → (a && true) ≡ a
-and-true true = refl
-and-true false = refl
-
-pub and-assoc : (a b c : Bool) → ((a && b) && c) ≡ (a && (b && c))
-and-assoc true b c = refl
-and-assoc false b c = refl
-
 -- the firsts of two pairs and the seconds
 pub and-mixed : (a b c d : Bool) → ((a && b) && (c && d)) ≡ ((a && c) && (b && d))
 and-mixed true true c d = refl
