@@ -37,7 +37,7 @@ module _ (g : Geometry) (t : List ℕ) (n : ℕ) (h : n < g .nodes) {start : ℕ
   pub row-state : (b : ℕ) → b < g .items → rowState t start b ≡ view g t .entry n b .state
   unfolding rowState
   row-state b k =
-      let e : start + entryWords * b ≡ entryAt g n b + 0 = omega (arith, a .at) in
+      let e : start + entryWords * b ≡ entryAt g n b = omega (arith, a .at) in
       ap (λ i. getD t i 0) e ∙ sym (ap (λ x. x .state) (entry-read g t n b (and-both (lt-ltb _ _ h) (lt-ltb _ _ k))))
 
 -- a node whose frames are one set

@@ -280,7 +280,7 @@ module _ {g : Geometry} {t list notes₀ : List ℕ} {n start m : ℕ} (r : RowS
     entry = entry-read g t n b (and-both (lt-ltb n (g .nodes) (r .ready .node)) (lt-ltb b (g .items) (u .there)))
 
     read-state : getD t (start + j) 0 ≡ view g t .entry n b .state
-    read-state = ap (λ i. getD t i 0) (let e : start + j ≡ entryAt g n b + 0 = omega (arith, place) in e) ∙ sym (ap (λ e. e .state) entry)
+    read-state = ap (λ i. getD t i 0) place ∙ sym (ap (λ e. e .state) entry)
 
     read-value : getD t (start + j + 1) 0 ≡ view g t .entry n b .value
     read-value = ap (λ i. getD t (i + 1) 0) place ∙ sym (ap (λ e. e .value) entry)

@@ -71,10 +71,6 @@ pub record Weighed (forward : Bool) (w r : ℕ) : Type 0 where
   pub value : (e : Entry) → e .state ≡ w → hasOn forward e ≡ true → copyValue (copyOn forward e) ≡ cond (eqb place 0) (e .value) (e .keptValue)
   pub form : stateForm w ≡ (eqb out 0 && eqb (w % 2 ^ 58) 0)
 
--- the entry whose state word is at a place
-abbrev pub entryFrom : List ℕ → ℕ → Entry
-entryFrom t at = record { state = getD t at 0; value = getD t (at + 1) 0; keptValue = getD t (at + 2) 0 }
-
 -- what an entry of item j tells beside the tallies s and the first values f, and what it makes of them
 pub record EntryNoted (forward : Bool) (step : ℕ) (e : Entry) (j : ℕ) (s s′ f f′ : List ℕ) (r : Note) : Type 0 where
   pub weighed : Weighed forward (e .state) (r .weight)

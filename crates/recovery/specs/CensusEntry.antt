@@ -15,7 +15,7 @@ use Rattle.counting.specs.Differences.{none-differ}
 use Rattle.counting.specs.Counting.{every, every-at, one, one-le, one-same}
 use Rattle.table.specs.Geometry.{product}
 use Rattle.table.specs.Words.{currentOf, keptOf}
-use Rattle.table.specs.View.{Entry, current, kept}
+use Rattle.table.specs.View.{Entry, current, kept, entryIn}
 use Rattle.table.specs.Copies.{copyNumber, copyValue, back-number, back-value}
 use Rattle.entries.specs.Frames.{frameOf, framesIn, frame-le, frames-two}
 use Rattle.entries.specs.Row.{topOf, quarter}
@@ -24,7 +24,7 @@ use Rattle.entries.specs.SurveySound.{form-parts}
 use Rattle.checkpoints.specs.Forward.{by-number, forward-value}
 use Rattle.recovery.specs.Sides.{copyOn}
 use Rattle.recovery.specs.Notes.{hasOn, numberWeight, number-small}
-use Rattle.recovery.specs.Census.{numberOn, placeOn, sideBits, Weighed, entryFrom, EntryNoted}
+use Rattle.recovery.specs.Census.{numberOn, placeOn, sideBits, Weighed, EntryNoted}
 
 -- ---- an entry's codes on a side
 
@@ -120,7 +120,7 @@ module _ (forward : Bool) (step : ℕ) (t : List ℕ) (at j : ℕ) (s f : List �
     (read : x ≡ getD t (at + 1 + r / 2 ^ 40 % 2) 0) (met : known ≡ cond (eqb (getD s j 0) 0) x (getD f j 0))
     (noted : first ≡ cond (eqb (r / 1024 % 2048) 0) (getD f j 0) known) (chosen : taken ≡ cond (eqb (r / 1024 % 2048) 0) x known) where
   abbrev e : Entry
-  e = entryFrom t at
+  e = entryIn t at
 
   own : Weighed forward (getD t at 0) r
   own = weighed forward (getD t at 0) h

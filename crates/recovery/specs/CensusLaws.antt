@@ -17,7 +17,7 @@ use Rattle.counting.specs.Crowded.{sum-most}
 use Rattle.table.specs.declared.geometry.Geometry.{Geometry}
 use Rattle.table.specs.Geometry.{entryAt, Placed, product}
 use Rattle.table.specs.Words.{markForm}
-use Rattle.table.specs.View.{Entry, View, view, live, entry-read}
+use Rattle.table.specs.View.{Entry, View, view, live, entry-read, entryIn}
 use Rattle.table.specs.Copies.{copyNumber}
 use Rattle.entries.specs.Frames.{setFrames, framesIn}
 use Rattle.entries.specs.Sound.{marksForm, nodeSound, nodesSound, node-dead}
@@ -33,7 +33,7 @@ use Rattle.recovery.specs.Sides.{copyOn}
 use Rattle.recovery.specs.Rows.{stateIn, Listed, reached, reached-start, reached-next, listed-turn, listed-end, row-room}
 use Rattle.recovery.specs.RowsSound.{RowTo, row-start, row-turn, row-all, row-sound}
 use Rattle.recovery.specs.Notes.{hasOn, numberWeight, stepOf, NotedTo, Notable, noted-start, noted-rooms, noted-same, noted-turn, noted-all, note-dead, note-live, equalTo, equal-dead, equal-live, number-blank, note-zeros, notes-fit}
-use Rattle.recovery.specs.Census.{entryFrom, EntryNoted, RowReady, RowNoted, sideWeight, heldOn, Takable, CensusTo, NodeReady, NodeNoted, NodesNoted, KindsTold, TakenIn}
+use Rattle.recovery.specs.Census.{EntryNoted, RowReady, RowNoted, sideWeight, heldOn, Takable, CensusTo, NodeReady, NodeNoted, NodesNoted, KindsTold, TakenIn}
 
 -- ---- a row
 
@@ -93,11 +93,10 @@ entry-small m = let w = m .weighed in
 -- the entry that the code reads is the view's
 entry-here :
     (g : Geometry) (n : ℕ) (t : List ℕ) (j : ℕ) {start : ℕ} → n < g .nodes → j < g .items → Placed g n 0 start
-    → view g t .entry n j ≡ entryFrom t (start + 3 * j)
+    → view g t .entry n j ≡ entryIn t (start + 3 * j)
 entry-here g n t j {start} h k a =
-    let e : start + 3 * j ≡ entryAt g n j = omega (arith, a .at) in
-    let z : entryAt g n j + 0 ≡ entryAt g n j = omega arith in
-    entry-read g t n j (and-both (lt-ltb _ _ h) (lt-ltb _ _ k)) ∙ rw (e, z) refl
+    let e : entryAt g n j ≡ start + 3 * j = omega (arith, a .at) in
+    entry-read g t n j (and-both (lt-ltb _ _ h) (lt-ltb _ _ k)) ∙ ap (entryIn t) e
 
 module _ (forward : Bool) (v : View) (n : ℕ) where
   held-blank : {held : ℕ} (j : ℕ) → stateIn v n j ≡ 0 → held ≡ count (λ b. hasOn forward (v .entry n b)) j
@@ -140,17 +139,17 @@ module _ (g : Geometry) (forward : Bool) (n : ℕ) (t : List ℕ) {start : ℕ} 
 
   -- after it
   pub passed-turn :
-      k < many → {s₁ f₁ : List ℕ} {r : Note} → EntryNoted forward (stepOf n) (entryFrom t (start + 3 * getD l k 0)) (getD l k 0) s′ s₁ f′ f₁ r
+      k < many → {s₁ f₁ : List ℕ} {r : Note} → EntryNoted forward (stepOf n) (entryIn t (start + 3 * getD l k 0)) (getD l k 0) s′ s₁ f′ f₁ r
       → RowPassed forward (view g t) n (reached l (k + 1)) s s₁ f f₁ (bitOr low (r .low)) (sum + r .weight) (bitOr differ (r .differ))
   passed-turn q {s₁} {f₁} {r} m =
       let u = o .notable .listed in
       let j = getD l k 0 in
       let w = m .weighed in
       let z = entry-here g n t j (o .there) (u .below k q) (o .placed) in
-      let e : stateIn (view g t) n j ≡ entryFrom t (start + 3 * j) .state = ap (λ (x : Entry). x .state) z in
+      let e : stateIn (view g t) n j ≡ entryIn t (start + 3 * j) .state = ap (λ (x : Entry). x .state) z in
       let up : reached l k + 1 ≤ reached l (k + 1) = omega (arith, u .ascends k q, reached-next l k) in
       record {
-        frames = p .frames + framesIn (entryFrom t (start + 3 * j) .state);
+        frames = p .frames + framesIn (entryIn t (start + 3 * j) .state);
         first = p .first + w .first;
         second = p .second + w .second;
         out = p .out + w .out;
@@ -162,7 +161,7 @@ module _ (g : Geometry) (forward : Bool) (n : ℕ) (t : List ℕ) {start : ℕ} 
         out-few = omega (arith, p .out-few, w .out-few);
         place-few = omega (arith, p .place-few, w .place-few);
         held-few = omega (arith, p .held-few, w .has-few);
-        row = subst (λ (b : Bool). RowTo (view g t) n (reached l (k + 1)) b (p .frames + framesIn (entryFrom t (start + 3 * j) .state)))
+        row = subst (λ (b : Bool). RowTo (view g t) n (reached l (k + 1)) b (p .frames + framesIn (entryIn t (start + 3 * j) .state)))
             (ap (λ (b : ℕ). (eqb low 0 && eqb (p .out) 0) && (eqb (w .out) 0 && eqb b 0)) (sym (m .low)) ∙ forms-turn (eqb low 0) (eqb (r .low) 0) (p .out) (w .out)
             ∙ ap (λ (b : Bool). b && eqb (p .out + w .out) 0) (sym (none-gathered low (r .low))))
             (row-turn (view g t) n u k (p .row) q (sym e) (sym (w .form)) refl (w .frames-few));
@@ -173,7 +172,7 @@ module _ (g : Geometry) (forward : Bool) (n : ℕ) (t : List ℕ) {start : ℕ} 
               arith,
               listed-turn (λ i. p .held ≡ count (λ b. hasOn forward (view g t .entry n b)) i) (stateIn (view g t) n) (held-blank forward (view g t) n) u k q (p .held-to),
               count-next (λ b. hasOn forward (view g t .entry n b)) j,
-              w .held (entryFrom t (start + 3 * j)) refl,
+              w .held (entryIn t (start + 3 * j)) refl,
               ap (λ x. one (hasOn forward x)) z,
             ));
       }

@@ -14,7 +14,7 @@ use Rattle.counting.specs.First.{first, first-le, first-ext}
 use Rattle.table.specs.declared.geometry.Geometry.{Geometry}
 use Rattle.table.specs.Geometry.{entryAt, markAt, entries-apart}
 use Rattle.table.specs.Stores.{Store, Change, sizeStore, markStore, entryStore, Stored, placeOf, partOf, part-low, after-off, All, none, more, all-then}
-use Rattle.table.specs.View.{View, view, updates, mark-read, entry-read}
+use Rattle.table.specs.View.{View, view, updates, mark-read, entry-read, entry-same}
 use Rattle.entries.specs.Tally.{copy}
 use Rattle.homes.specs.HomeCode.{after-below}
 use Rattle.survivors.specs.declared.lost.Lost.{Lost}
@@ -79,7 +79,8 @@ module _ (g : Geometry) (i : ℕ) {ss : List Store} {left left′ : ℕ} {t t′
   entry-stays : (n b : ℕ) → n < g .nodes → b < g .items → i ≤ b → view g t′ .entry n b ≡ view g t .entry n b
   entry-stays n b hn hb l =
       entry-read g t′ n b (and-both (lt-ltb _ _ hn) (lt-ltb _ _ hb))
-      ∙ rw (word 0 (omega arith), word 1 (omega arith), word 2 (omega arith)) (sym (entry-read g t n b (and-both (lt-ltb _ _ hn) (lt-ltb _ _ hb))))
+      ∙ entry-same t t′ (entryAt g n b) word
+      ∙ sym (entry-read g t n b (and-both (lt-ltb _ _ hn) (lt-ltb _ _ hb)))
     where
       word : (k : ℕ) → k < 3 → getD t′ (entryAt g n b + k) 0 ≡ getD t (entryAt g n b + k) 0
       word k h = ap (λ u. getD u (entryAt g n b + k) 0) (s .table) ∙ after-off g (entryAt g n b + k) left t (entry-off g i n b k hb l h a)

@@ -244,7 +244,7 @@ module _ (g : Geometry) (t : List ℕ) (n b : ℕ) (h : HasEntry g t n b) {at : 
   read = entry-read g t n b (and-both (lt-ltb _ _ (h .0)) (lt-ltb _ _ (h .1 .0)))
 
   pub entry-state : getD t at 0 ≡ view g t .entry n b .state
-  entry-state = let z : at ≡ entryAt g n b + 0 = omega (arith, a) in ap (λ i. getD t i 0) z ∙ sym (ap (λ e. e .state) read)
+  entry-state = ap (λ i. getD t i 0) a ∙ sym (ap (λ e. e .state) read)
 
   pub entry-value : getD t (at + 1) 0 ≡ view g t .entry n b .value
   entry-value = ap (λ i. getD t (i + 1) 0) a ∙ sym (ap (λ e. e .value) read)

@@ -3,10 +3,10 @@ ghost use mathlib.Core.Path.{_≡_};
 ghost use mathlib.Core.Bool.{true, false};
 ghost use Prim.Native.Nat.{_+_, _^_, _<_, _≤_};
 ghost use lib.ListN.{length, getD};
-ghost use Rattle.table.specs.View.{view};
+ghost use Rattle.table.specs.View.{view, entryIn};
 ghost use Rattle.entries.specs.Row.{topOf};
 ghost use Rattle.survivors.specs.Survivors.{survivors};
-ghost use Rattle.recovery.specs.Census.{sideBits, entryFrom, EntryNoted, RowReady, RowNoted, NodeReady, NodeNoted, NodesNoted, KindsTold, Takable, TakenIn};
+ghost use Rattle.recovery.specs.Census.{sideBits, EntryNoted, RowReady, RowNoted, NodeReady, NodeNoted, NodesNoted, KindsTold, Takable, TakenIn};
 use crate::rows;
 use counting::choice;
 use entries::frames;
@@ -210,7 +210,7 @@ fn note_entry(
     firsts: &mut [u64],
 ) -> Note
     requires { ⌜ (at + 2 < length (now table)) × ((item < length (now tallies)) × ((item < length (now firsts)) × ((getD (now tallies) item 0 < 2 ^ 62) × (step < 2 ^ 32)))) ⌝ }
-    ensures { λ r. ⌜ EntryNoted forward step (entryFrom (now (table .entry)) at) item (now (tallies .entry)) (now (tallies .exit)) (now (firsts .entry)) (now (firsts .exit)) r ⌝ }
+    ensures { λ r. ⌜ EntryNoted forward step (entryIn (now (table .entry)) at) item (now (tallies .entry)) (now (tallies .exit)) (now (firsts .entry)) (now (firsts .exit)) r ⌝ }
 {
     let state = table[at];
     let tally = tallies[item];

@@ -14,7 +14,7 @@ use borrow.Author.Tests.{eq-eqb, ne-eqb, lt-leb, le-ltb, ltb-true}
 use Rattle.counting.specs.Tests.{by-cases, no-both, and-no}
 use Rattle.table.specs.declared.geometry.Geometry.{Geometry}
 use Rattle.table.specs.Geometry.{markAt, entryAt}
-use Rattle.table.specs.View.{View, view, live, there, entryIn, blank}
+use Rattle.table.specs.View.{View, view, live, there, entryIn, entry-same, blank}
 use Rattle.entries.specs.CheckFacts.{Shape}
 use Rattle.homes.specs.Kept.{Live}
 use Rattle.homes.specs.FramesKept.{used-no-more}
@@ -57,7 +57,7 @@ same-view : (g : Geometry) (t t′ : List ℕ) → ((i : ℕ) → getD t′ i 0 
 unfolding view
 same-view g t t′ h = λ i. record {
   mark = λ n. cond (ltb n (g .nodes)) (h (markAt n) i) 0;
-  entry = λ n b. cond (there g n b) (record { state = h (entryAt g n b + 0) i; value = h (entryAt g n b + 1) i; keptValue = h (entryAt g n b + 2) i }) blank;
+  entry = λ n b. cond (there g n b) (entry-same t t′ (entryAt g n b) (λ k _. h (entryAt g n b + k)) i) blank;
 }
 
 module _ (g : Geometry) (lost : ℕ) (inside : lost < g .nodes) where
@@ -84,7 +84,7 @@ module _ (g : Geometry) (lost : ℕ) (inside : lost < g .nodes) where
         word i h = rest (entryAt g n b + i) (entry-of-other n b i hb d h)
 
         same : entryIn t′ (entryAt g n b) ≡ entryIn t (entryAt g n b)
-        same = rw (word 0 (omega arith), word 1 (omega arith), word 2 (omega arith)) refl
+        same = entry-same t t′ (entryAt g n b) word
 
     marks-same : survivors (Node lost) (view g t′) .mark ≡ survivors (Node lost) (view g t) .mark
     marks-same = fun-ext (λ n. elim (ℕ-discrete n lost) [

@@ -1,9 +1,10 @@
 -- What a table shows: a mark for each node, an entry for each node and item. Nodes and items that are not there show zeros.
 use Prim.Native.Nat.{ℕ, _+_, _<_, _≤_}
-use mathlib.Core.Path.{_≡_, refl, sym}
+use mathlib.Core.Path.{_≡_, refl, sym, ap}
 use mathlib.Core.Bool.{Bool, true, false, not, cond, _&&_}
 use mathlib.Core.List.{List, [], _∷_}
-use lib.Dec.{eqb, ltb}
+use native.Mathlib.Nat.{add-zero}
+use lib.Dec.{eqb, ltb, lit<}
 use lib.ListN.{getD}
 use borrow.Author.Tests.{lt-ltb, le-ltb}
 use Rattle.counting.specs.Tests.{by-cases}
@@ -38,7 +39,11 @@ abbrev pub blank : Entry
 blank = record { state = 0; value = 0; keptValue = 0 }
 
 abbrev pub entryIn : List ℕ → ℕ → Entry
-entryIn t at = record { state = getD t (at + 0) 0; value = getD t (at + 1) 0; keptValue = getD t (at + 2) 0 }
+entryIn t at = record { state = getD t at 0; value = getD t (at + 1) 0; keptValue = getD t (at + 2) 0 }
+
+-- an entry all of whose words are the same
+pub entry-same : (t t′ : List ℕ) (at : ℕ) → ((k : ℕ) → k < 3 → getD t′ (at + k) 0 ≡ getD t (at + k) 0) → entryIn t′ at ≡ entryIn t at
+entry-same t t′ at h = λ i. record { state = (rw (add-zero at) at (h 0 (lit< tt))) i; value = h 1 (lit< tt) i; keptValue = h 2 (lit< tt) i }
 
 abbrev pub there : Geometry → ℕ → ℕ → Bool
 there g n b = ltb n (g .nodes) && ltb b (g .items)
@@ -109,7 +114,7 @@ module _ (g : Geometry) (t : List ℕ) (n : ℕ) where
 
   module _ (b : ℕ) where
     pub state-read : entryWord g t n b 0 ≡ view g t .entry n b .state
-    state-read = word-field b 0 (λ e. e .state) (λ at. refl) refl
+    state-read = word-field b 0 (λ e. e .state) (λ at. ap (λ i. getD t i 0) (sym (add-zero at))) refl
 
     pub value-read : entryWord g t n b 1 ≡ view g t .entry n b .value
     value-read = word-field b 1 (λ e. e .value) (λ at. refl) refl

@@ -4,8 +4,9 @@ use mathlib.Core.Path.{_≡_, refl, ap, _∙_, fun-ext}
 use mathlib.Core.Logic.{_≢_}
 use mathlib.Core.Bool.{Bool, true, false, cond}
 use mathlib.Core.List.{List}
+use native.Mathlib.Nat.{add-zero}
 use native.Mathlib.Omega.{arith}
-use lib.Dec.{ltb, lit<}
+use lib.Dec.{ltb}
 use lib.ListN.{length, getD, set, take, length-set}
 use lib.Seq.{getD-set-same, getD-set-other}
 use borrow.Author.Tests.{ltb-true, lt-ltb}
@@ -13,7 +14,7 @@ use Rattle.table.specs.declared.geometry.Geometry.{Geometry}
 use Rattle.counting.specs.Tests.{both}
 use Rattle.table.specs.Geometry.{markAt, entryAt, wordsOf, entry-within, entries-apart}
 use Rattle.table.specs.Stores.{Change, stateTo, valueTo, keptTo, partOf, part-low, changeWord, Store, sizeStore, markStore, entryStore, placeOf, wordOf, after, All, none, more}
-use Rattle.table.specs.View.{view, entryIn, blank, there, changed, update, updates}
+use Rattle.table.specs.View.{view, entryIn, entry-same, blank, there, changed, update, updates}
 use Rattle.table.specs.Puts.{put₁-case, put₂-case}
 
 -- a store within the table
@@ -24,28 +25,24 @@ Within g (entryStore n b c) = (n < g .nodes) × (b < g .items)
 
 -- a store in the entry at a word, and one elsewhere
 in-here : (t : List ℕ) (at : ℕ) (c : Change) → at + 2 < length t → entryIn (set t (at + partOf c) (changeWord c)) at ≡ changed c (entryIn t at)
-in-here t at (stateTo c k) h = λ i. record {
-  state = getD-set-same t (at + 0) (changeWord (stateTo c k)) 0 (omega arith) i;
-  value = getD-set-other t (at + 0) (at + 1) (changeWord (stateTo c k)) 0 (λ e. omega arith) i;
-  keptValue = getD-set-other t (at + 0) (at + 2) (changeWord (stateTo c k)) 0 (λ e. omega arith) i;
-}
+in-here t at (stateTo c k) h = rw (add-zero at) (λ i. record {
+  state = getD-set-same t at (changeWord (stateTo c k)) 0 (omega arith) i;
+  value = getD-set-other t at (at + 1) (changeWord (stateTo c k)) 0 (λ e. omega arith) i;
+  keptValue = getD-set-other t at (at + 2) (changeWord (stateTo c k)) 0 (λ e. omega arith) i;
+})
 in-here t at (valueTo x) h = λ i. record {
-  state = getD-set-other t (at + 1) (at + 0) x 0 (λ e. omega arith) i;
+  state = getD-set-other t (at + 1) at x 0 (λ e. omega arith) i;
   value = getD-set-same t (at + 1) x 0 (omega arith) i;
   keptValue = getD-set-other t (at + 1) (at + 2) x 0 (λ e. omega arith) i;
 }
 in-here t at (keptTo x) h = λ i. record {
-  state = getD-set-other t (at + 2) (at + 0) x 0 (λ e. omega arith) i;
+  state = getD-set-other t (at + 2) at x 0 (λ e. omega arith) i;
   value = getD-set-other t (at + 2) (at + 1) x 0 (λ e. omega arith) i;
   keptValue = getD-set-same t (at + 2) x 0 (omega arith) i;
 }
 
 in-off : (t : List ℕ) (at i w : ℕ) → ((k : ℕ) → k < 3 → at + k ≢ i) → entryIn (set t i w) at ≡ entryIn t at
-in-off t at i w h = λ j. record {
-  state = getD-set-other t i (at + 0) w 0 (h 0 (lit< tt)) j;
-  value = getD-set-other t i (at + 1) w 0 (h 1 (lit< tt)) j;
-  keptValue = getD-set-other t i (at + 2) w 0 (h 2 (lit< tt)) j;
-}
+in-off t at i w h = entry-same t (set t i w) at (λ k l. getD-set-other t i (at + k) w 0 (h k l))
 
 module _ (g : Geometry) (t : List ℕ) where
   -- an entry, and a mark, that a store does not touch
