@@ -5,8 +5,8 @@ use mathlib.Core.List.{List}
 use native.Mathlib.Omega.{arith}
 use lib.Dec.{leb, ltb}
 use lib.ListN.{getD}
-use borrow.Author.Tests.{lt-ltb, ltb-true, ltb-false}
-use Rattle.counting.specs.Tests.{and-both, by-cases}
+use borrow.Author.Tests.{ltb-true, ltb-false}
+use Rattle.counting.specs.Tests.{by-cases}
 use Rattle.counting.specs.Counting.{every}
 use Rattle.table.specs.declared.geometry.Geometry.{Geometry}
 use Rattle.table.specs.Geometry.{entryWords, entryAt, Placed}
@@ -38,7 +38,7 @@ module _ (g : Geometry) (t : List ℕ) (n : ℕ) (h : n < g .nodes) {start : ℕ
   unfolding rowState
   row-state b k =
       let e : start + entryWords * b ≡ entryAt g n b = omega (arith, a .at) in
-      ap (λ i. getD t i 0) e ∙ sym (ap (λ x. x .state) (entry-read g t n b (and-both (lt-ltb _ _ h) (lt-ltb _ _ k))))
+      ap (λ i. getD t i 0) e ∙ sym (ap (λ x. x .state) (entry-read g t n b h k))
 
 -- a node whose frames are one set
 module _ (g : Geometry) (v : View) (n : ℕ) where

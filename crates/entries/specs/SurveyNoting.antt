@@ -10,7 +10,6 @@ use lib.Bits.{bitOr, bitXor}
 use lib.Dec.{eqb}
 use lib.ListN.{length, getD, set, length-set}
 use lib.Seq.{getD-set-same, getD-set-other}
-use borrow.Author.Tests.{lt-ltb}
 use Rattle.counting.specs.Tests.{and-both}
 use Rattle.counting.specs.Differences.{none-gathered, none-differ}
 use Rattle.counting.specs.Counting.{every, every-none, every-next, sum, sum-none, sum-next, count, count-none, count-le, below}
@@ -277,7 +276,7 @@ module _ {g : Geometry} {t list notes₀ : List ℕ} {n start m : ℕ} (r : RowS
     place = omega (arith, r .placed .at, u .at)
 
     entry : view g t .entry n b ≡ entryIn t (entryAt g n b)
-    entry = entry-read g t n b (and-both (lt-ltb n (g .nodes) (r .ready .node)) (lt-ltb b (g .items) (u .there)))
+    entry = entry-read g t n b (r .ready .node) (u .there)
 
     read-state : getD t (start + j) 0 ≡ view g t .entry n b .state
     read-state = ap (λ i. getD t i 0) place ∙ sym (ap (λ e. e .state) entry)

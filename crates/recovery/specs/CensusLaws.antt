@@ -9,8 +9,8 @@ use lib.Bits.{bitOr}
 use lib.Dec.{eqb, leb}
 use lib.ListN.{length, getD, set, length-set}
 use lib.Seq.{getD-set-same, getD-set-other}
-use borrow.Author.Tests.{lt-ltb, eq-eqb, ne-eqb}
-use Rattle.counting.specs.Tests.{by-cases, and-both, and-mixed, no-both, none-added}
+use borrow.Author.Tests.{eq-eqb, ne-eqb}
+use Rattle.counting.specs.Tests.{by-cases, and-mixed, no-both, none-added}
 use Rattle.counting.specs.Differences.{none-gathered}
 use Rattle.counting.specs.Counting.{every, every-and, sum, sum-none, sum-next, one, count, count-none, count-next}
 use Rattle.counting.specs.Crowded.{sum-most}
@@ -96,7 +96,7 @@ entry-here :
     → view g t .entry n j ≡ entryIn t (start + 3 * j)
 entry-here g n t j {start} h k a =
     let e : entryAt g n j ≡ start + 3 * j = omega (arith, a .at) in
-    entry-read g t n j (and-both (lt-ltb _ _ h) (lt-ltb _ _ k)) ∙ ap (entryIn t) e
+    entry-read g t n j h k ∙ ap (entryIn t) e
 
 module _ (forward : Bool) (v : View) (n : ℕ) where
   held-blank : {held : ℕ} (j : ℕ) → stateIn v n j ≡ 0 → held ≡ count (λ b. hasOn forward (v .entry n b)) j

@@ -7,8 +7,7 @@ use mathlib.Core.List.{List, [], _∷_, map}
 use native.Mathlib.Omega.{arith}
 use lib.Dec.{eqb}
 use lib.ListN.{getD}
-use borrow.Author.Tests.{lt-ltb, eqb-true}
-use Rattle.counting.specs.Tests.{and-both}
+use borrow.Author.Tests.{eqb-true}
 use Rattle.counting.specs.Counting.{count, count-ext, one}
 use Rattle.counting.specs.First.{first, first-le, first-ext}
 use Rattle.table.specs.declared.geometry.Geometry.{Geometry}
@@ -78,9 +77,9 @@ mark-off g i n hn (more {s = entryStore m d c} p a) =
 module _ (g : Geometry) (i : ℕ) {ss : List Store} {left left′ : ℕ} {t t′ : List ℕ} (a : All (Before g i) ss) (s : Stored g left ss t t′ left′) where
   entry-stays : (n b : ℕ) → n < g .nodes → b < g .items → i ≤ b → view g t′ .entry n b ≡ view g t .entry n b
   entry-stays n b hn hb l =
-      entry-read g t′ n b (and-both (lt-ltb _ _ hn) (lt-ltb _ _ hb))
+      entry-read g t′ n b hn hb
       ∙ entry-same t t′ (entryAt g n b) word
-      ∙ sym (entry-read g t n b (and-both (lt-ltb _ _ hn) (lt-ltb _ _ hb)))
+      ∙ sym (entry-read g t n b hn hb)
     where
       word : (k : ℕ) → k < 3 → getD t′ (entryAt g n b + k) 0 ≡ getD t (entryAt g n b + k) 0
       word k h = ap (λ u. getD u (entryAt g n b + k) 0) (s .table) ∙ after-off g (entryAt g n b + k) left t (entry-off g i n b k hb l h a)

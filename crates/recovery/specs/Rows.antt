@@ -11,9 +11,9 @@ use mir.Val.{boolByte}
 use lib.Dec.{eqb}
 use lib.ListN.{length, getD, set, length-set}
 use lib.Seq.{getD-set-same, getD-set-other}
-use Rattle.counting.specs.Tests.{by-cases, and-both}
+use Rattle.counting.specs.Tests.{by-cases}
 use Rattle.counting.specs.Counting.{bit-counted}
-use borrow.Author.Tests.{eqb-true, lt-ltb}
+use borrow.Author.Tests.{eqb-true}
 use Rattle.table.specs.declared.geometry.Geometry.{Geometry}
 use Rattle.table.specs.Geometry.{wordsOf, entryAt, Placed, entry-within}
 use Rattle.table.specs.View.{View, view, entryIn, entry-read}
@@ -241,7 +241,7 @@ module _ (g : Geometry) (t : List ℕ) (n b : ℕ) (h : HasEntry g t n b) {at : 
   entry-room = omega (arith, a, entry-within g (h .0) (h .1 .0), h .1 .1)
 
   read : view g t .entry n b ≡ entryIn t (entryAt g n b)
-  read = entry-read g t n b (and-both (lt-ltb _ _ (h .0)) (lt-ltb _ _ (h .1 .0)))
+  read = entry-read g t n b (h .0) (h .1 .0)
 
   pub entry-state : getD t at 0 ≡ view g t .entry n b .state
   entry-state = ap (λ i. getD t i 0) a ∙ sym (ap (λ e. e .state) read)

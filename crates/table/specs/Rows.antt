@@ -66,24 +66,22 @@ fresh-then first second third = stored-then first (stored-then second third)
 pub record Row (g : Geometry) (n first second around left : ℕ) (b ahead : ℕ) (t t′ : List ℕ) (left′ : ℕ) : Type 0 where
   pub within : b ≤ g .items
   pub distance : ahead ≡ aheadAt around n b
-  pub few : ahead ≤ 256
   pub stored : Stored g left (runs (rowEntry n first second around) b) t t′ left′
 
 module _ {g : Geometry} {n first second around left : ℕ} {t : List ℕ} where
-  pub row-starts : n ≤ 256 → Row g n first second around left 0 n t t left
+  pub row-starts : Row g n first second around left 0 n t t left
   unfolding aheadAt
-  row-starts h = record { within = omega arith; distance = refl; few = h; stored = loop-starts g (rowEntry n first second around) left t }
+  row-starts = record { within = omega arith; distance = refl; stored = loop-starts g (rowEntry n first second around) left t }
 
   pub row-turns :
       {b ahead place left₁ left₂ r : ℕ} {t₁ t₂ : List ℕ} → Row g n first second around left b ahead t t₁ left₁ → b < g .items
-      → place ≡ placeAhead first second ahead → StoredIn g left₁ n b (freshEntry place) t₁ t₂ left₂ → (r ≡ nextAhead around ahead) × (r ≤ 256)
+      → place ≡ placeAhead first second ahead → StoredIn g left₁ n b (freshEntry place) t₁ t₂ left₂ → r ≡ nextAhead around ahead
       → Row g n first second around left (b + 1) r t t₂ left₂
   unfolding aheadAt
   row-turns {b} w h p s e =
       record {
         within = omega arith;
-        distance = rw add-one (e .0 ∙ ap (nextAhead around) (w .distance));
-        few = e .1;
+        distance = rw add-one (e ∙ ap (nextAhead around) (w .distance));
         stored =
             loop-turns (rowEntry n first second around) b (w .stored)
             (stored-as (ap (λ x. map (entryStore n b) (freshEntry x)) (ap (placeAhead first second) (sym (w .distance)) ∙ sym p)) s);

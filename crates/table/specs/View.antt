@@ -102,9 +102,9 @@ module _ (g : Geometry) (t : List ℕ) (n : ℕ) where
   unfolding entryWord
   word-none b k h = rw h
 
-  pub entry-read : (b : ℕ) → there g n b ≡ true → view g t .entry n b ≡ entryIn t (entryAt g n b)
+  pub entry-read : (b : ℕ) → n < g .nodes → b < g .items → view g t .entry n b ≡ entryIn t (entryAt g n b)
   unfolding view
-  entry-read b h = rw h
+  entry-read b h k = rw (lt-ltb n (g .nodes) h, lt-ltb b (g .items) k)
 
   -- a field that is word k of each entry, and 0 of the blank one
   word-field :

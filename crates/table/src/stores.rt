@@ -1,7 +1,6 @@
 // Reading and storing words of the table. One function stores, and it alone looks at the limit; the others say which word they mean.
 ghost use mathlib.Core.Path.{_≡_};
 ghost use mathlib.Core.List.{[], _∷_};
-ghost use Prim.Native.Nat.{_≤_};
 ghost use lib.ListN.{getD};
 ghost use Rattle.table.specs.Stores.{Wrote, Stored, StoredIn, runs, sizeStore, markStore, entryStore, stateTo, valueTo, keptTo};
 ghost use Rattle.table.specs.Rows.{nextAhead, placeAhead, freshEntry, rowEntry};
@@ -143,8 +142,7 @@ fn place_ahead(ahead: u64, first: u8, second: u8) -> u8
 
 // How far the node is ahead at the item after: two less, or past a copy `around` more.
 fn next_ahead(ahead: u64, around: u8) -> u64
-    requires { ⌜ ahead ≤ 256 ⌝ }
-    ensures { λ r. ⌜ (r ≡ nextAhead around ahead) × (r ≤ 256) ⌝ }
+    ensures { λ r. ⌜ r ≡ nextAhead around ahead ⌝ }
 {
     if 1 < ahead {
         return ahead - 2;

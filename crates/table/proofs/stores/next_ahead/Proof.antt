@@ -10,6 +10,6 @@ next-ahead-spec =
     tie.close
     (tie.spec
     (λ c. search needs)
-    (λ c. (next-far _ _ (c .if1 .taken), search needs))
+    (λ c. next-far _ _ (c .if1 .taken))
     (λ c. search needs)
-    (λ c. (next-near _ _ (omega (arith, c .if1 .left)), search needs)))
+    (λ c. next-near _ _ (omega (arith, c .if1 .left))))

@@ -18,7 +18,7 @@ store-row-spec =
     (tie.spec
     Inv-loop
     μ-loop
-    (λ c. row-starts (search needs))
+    (λ c. row-starts)
     (λ c κs. search needs)
     (λ c κs. search needs)
     (λ c κs. search needs)
