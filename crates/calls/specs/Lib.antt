@@ -1,20 +1,4 @@
 -- Read and Write as plans: definitions, the ways of their code, and what every cut of them keeps.
 pub mod Transitions
 pub mod Read
-pub mod ReadCode
 pub mod Write
-pub mod WriteCode
-pub mod Written
-pub mod WriteEntry
-pub mod WriteVia
-pub mod WriteTheorem
-pub mod ReadDone
-pub mod ReadEntry
-pub mod ReadServer
-pub mod ReadVia
-pub mod ReadTheorem
-pub mod WriteSound
-pub mod ReadKind
-pub mod ReadSound
-pub mod WriteServes
-pub mod ReadServes

@@ -1,12 +1,9 @@
 -- Commit: "each live mark, phase 2 and number plus 1, ascending; entries by node, then item, one state store where Precommit or Inv-CK
 -- stands; each live mark, phase 0."
 use Prim.Native.Nat.{ℕ, _+_}
-use mathlib.Core.Path.{_≡_, refl}
-use mathlib.Core.Bool.{true, false, cond}
+use mathlib.Core.Bool.{cond}
 use mathlib.Core.List.{List, _++_}
-use lib.Dec.{ltb}
 use Rattle.table.specs.declared.geometry.Geometry.{Geometry}
-use Rattle.table.specs.declared.answers.Refusal.{Refusal}
 use Rattle.table.specs.declared.answers.Refusal.the-variants.{NotCreated}
 use Rattle.table.specs.Words.{numberOf, markWord}
 use Rattle.table.specs.Stores.{Store}
@@ -17,7 +14,7 @@ use Rattle.homes.specs.declared.admission.Admission.{Admission}
 use Rattle.homes.specs.declared.admission.Admission.the-variants.{Admitted, Turned}
 use Rattle.checkpoints.specs.declared.checkpoint.Closing.the-variants.{Committed}
 use Rattle.homes.specs.Plans.{planBy}
-use Rattle.entries.specs.Dirty.{dirtyItem, noneDirty}
+use Rattle.entries.specs.Dirty.{noneDirty}
 use Rattle.checkpoints.specs.Checkpoint.{openAdmission, entriesTo}
 use Rattle.checkpoints.specs.Closing.{closeChange}
 
@@ -48,19 +45,3 @@ commitAdmission g v = createdAdmission g v (openAdmission g v)
 
 abbrev pub commitOf : List ℕ → Plan
 commitOf t = planBy commitAdmission (λ g v. carry g 0 (commitStores g v)) t
-
--- ---- the ways of the code
-
-module _ (g : Geometry) (v : View) {a : Admission} (h : a ≡ openAdmission g v) where
-  pub commit-turned : {x : Refusal} → a ≡ Turned x → Turned x ≡ commitAdmission g v
-  unfolding createdAdmission
-  commit-turned e = rw (← h, e) refl
-
-  module _ (e : a ≡ Admitted) {item : ℕ} (k : item ≡ dirtyItem g v) where
-    pub commit-dirty : ltb item (g .items) ≡ true → Turned NotCreated ≡ commitAdmission g v
-    unfolding createdAdmission
-    commit-dirty l = rw (← h, e, ← k, l) refl
-
-    pub commit-admitted : ltb item (g .items) ≡ false → Admitted ≡ commitAdmission g v
-    unfolding createdAdmission
-    commit-admitted l = rw (← h, e, ← k, l) refl

@@ -1,13 +1,11 @@
 -- Open: "phase 1 on each live mark, ascending."
 use Prim.Native.Nat.{ℕ, _-_, _^_}
-use mathlib.Core.Path.{_≡_, refl}
 use mathlib.Core.Bool.{cond}
 use mathlib.Core.List.{List}
 use lib.Dec.{eqb}
-use borrow.Author.Tests.{eq-eqb, ne-eqb}
 use Rattle.table.specs.declared.geometry.Geometry.{Geometry}
 use Rattle.table.specs.declared.answers.Refusal.the-variants.{CheckpointOpen, LastNumber}
-use Rattle.table.specs.Words.{phaseOf, numberOf, markWord}
+use Rattle.table.specs.Words.{numberOf, markWord}
 use Rattle.table.specs.Stores.{Store}
 use Rattle.table.specs.View.{View}
 use Rattle.table.specs.MarksPass.{marksTo}
@@ -39,18 +37,3 @@ startAdmission g v =
 
 abbrev pub openOf : List ℕ → Plan
 openOf t = planBy startAdmission (λ g v. carry g 0 (openStores g v)) t
-
--- ---- the ways of the code
-
-module _ (g : Geometry) (v : View) {mark phase number : ℕ} (h : mark ≡ commonMark g v) (e : phase ≡ phaseOf mark) (f : number ≡ numberOf mark) where
-  pub start-open : phase ≡ 1 → Turned CheckpointOpen ≡ startAdmission g v
-  unfolding startAdmission isOpen
-  start-open p = rw (← h, ← e, eq-eqb phase 1 p) refl
-
-  pub start-last : (phase ≡ 1 → ⊥) → number ≡ 2 ^ 32 - 1 → Turned LastNumber ≡ startAdmission g v
-  unfolding startAdmission isOpen
-  start-last p q = rw (← h, ← e, ← f, ne-eqb phase 1 p, eq-eqb number (2 ^ 32 - 1) q) refl
-
-  pub start-yes : (phase ≡ 1 → ⊥) → (number ≡ 2 ^ 32 - 1 → ⊥) → Admitted ≡ startAdmission g v
-  unfolding startAdmission isOpen
-  start-yes p q = rw (← h, ← e, ← f, ne-eqb phase 1 p, ne-eqb number (2 ^ 32 - 1) q) refl

@@ -6,7 +6,7 @@ ghost use Rattle.table.specs.View.{view};
 ghost use Rattle.table.specs.Answers.{Meets};
 ghost use Rattle.entries.specs.Dirty.{ownerOf, dirtyItem};
 ghost use Rattle.checkpoints.specs.Create.{sharesAt, sharerOf, createPlan, createOf};
-ghost use Rattle.checkpoints.specs.CreateCode.{itemPlan, sharerStores, takenStores};
+ghost use Rattle.checkpoints.specs.code.CreateCode.{itemPlan, sharerStores, takenStores};
 use entries::check::Surveyed;
 use homes::admission::Admission;
 use homes::places::Place;

@@ -1,10 +1,8 @@
 -- Soundness, as a test of the view: "The table is sound if word forms hold, live marks agree in phase (0 or 1) and number (under 2^32 − 1
 -- in phase 1), and every item over the live nodes is one of: clean; dirty; created".
-use mathlib.Core.Path.{_≡_}
-use mathlib.Core.Bool.{Bool, true, not, _&&_, _||_}
+use mathlib.Core.Bool.{Bool, not, _&&_, _||_}
 use Prim.Native.Nat.{ℕ, _-_, _^_}
 use lib.Dec.{ltb, eqb}
-use borrow.Author.Tests.{eq-eqb, ne-eqb}
 use Rattle.counting.specs.declared.values.Values.{Values}
 use Rattle.counting.specs.Counting.{every}
 use Rattle.counting.specs.Values.{valuesOf}
@@ -59,14 +57,3 @@ unfoldable pub sound : Geometry → View → Bool
 sound g v =
     marksForm v (g .nodes)
     && (marksAgree (phasesOf v (g .nodes)) (pointsOf v (g .nodes)) && (nodesSound g v && itemsSound g v (phasesOf v (g .nodes) .first)))
-
--- ---- the ways of the code: a dead node, a live one
-
-module _ (g : Geometry) (v : View) (n mark : ℕ) (e : mark ≡ v .mark n) where
-  pub node-dead : mark ≡ 0 → true ≡ nodeSound g v n
-  unfolding nodeSound
-  node-dead d = simp (← e, eq-eqb mark 0 d)
-
-  pub node-live : (mark ≡ 0 → ⊥) → {forms frames : Bool} → forms ≡ statesForm g v n → frames ≡ framesFit g v n → (forms && frames) ≡ nodeSound g v n
-  unfolding nodeSound
-  node-live d f u = simp (← e, ne-eqb mark 0 d, f, u)

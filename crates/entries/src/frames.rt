@@ -2,8 +2,9 @@
 ghost use mathlib.Core.Path.{_≡_};
 ghost use Prim.Native.Nat.{_+_, _*_, _/_, _<_, _≤_};
 ghost use lib.ListN.{length};
-ghost use Rattle.entries.specs.Frames.{setsOf, setOf, setFrames, frameOf, framesIn, framesAt, used, framesFit, frameFree, ampleFor};
-ghost use Rattle.entries.specs.RowFrames.{frameDigits, fourFrames, rowFrames};
+ghost use Rattle.entries.specs.Frames.{setsOf, setOf, setFrames, frameOf, framesIn, framesAt, used, framesFit, frameFree};
+ghost use Rattle.entries.specs.code.Frames.{ampleFor};
+ghost use Rattle.entries.specs.code.RowFrames.{frameDigits, fourFrames, rowFrames};
 ghost use Rattle.table.specs.View.{view};
 use table::geometry::Geometry;
 

@@ -1,7 +1,7 @@
 // The marks: the first live one, and whether all live ones are that word.
 ghost use mathlib.Core.Path.{_≡_};
 ghost use Rattle.table.specs.View.{view};
-ghost use Rattle.entries.specs.MarksLoop.{Marked, marksTest};
+ghost use Rattle.entries.specs.code.MarksLoop.{Marked, marksTest};
 use table::geometry::Geometry;
 use table::stores;
 use table::words;

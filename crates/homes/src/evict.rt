@@ -7,7 +7,7 @@ ghost use Rattle.table.specs.View.{view};
 ghost use Rattle.table.specs.Answers.{Meets};
 ghost use Rattle.homes.specs.Home.{arrivalOf};
 ghost use Rattle.homes.specs.Evict.{sourceStores, movedTo, evictOf};
-ghost use Rattle.homes.specs.EvictCode.{wayOf, wayAdmitted};
+ghost use Rattle.homes.specs.code.EvictCode.{wayOf, wayAdmitted};
 use crate::admission::Admission;
 use crate::home::Arrival;
 use crate::places::Place;

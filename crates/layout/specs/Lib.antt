@@ -1,6 +1,3 @@
 -- The calls on a table as a whole: Format, Check and Stretch.
 pub mod Format
-pub mod FormatRow
-pub mod FirstPlaces
-pub mod FormatTheorem
 pub mod Stretch

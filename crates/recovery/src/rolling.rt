@@ -9,7 +9,7 @@ ghost use Rattle.table.specs.Pass.{pass};
 ghost use Rattle.table.specs.Changes.{changeOf};
 ghost use Rattle.recovery.specs.Rolling.{bringBack, settled, rollChange};
 ghost use Rattle.recovery.specs.Sides.{sideEvent};
-ghost use Rattle.recovery.specs.RollingCode.{cleared, RollListed, RolledNode, Rolled};
+ghost use Rattle.recovery.specs.code.RollingCode.{cleared, RollListed, RolledNode, Rolled};
 use crate::rows;
 use survivors::lost::Lost;
 use survivors::nodes;

@@ -4,8 +4,8 @@ ghost use Prim.Native.Nat.{_+_, _*_, _/_, _<_, _≤_};
 ghost use lib.ListN.{length};
 ghost use Rattle.table.specs.Geometry.{wordsOf};
 ghost use Rattle.table.specs.View.{view};
-ghost use Rattle.entries.specs.Row.{rowState};
-ghost use Rattle.recovery.specs.Rows.{HasEntry, stateIn, Listing, ListedMore};
+ghost use Rattle.entries.specs.code.Row.{rowState};
+ghost use Rattle.recovery.specs.code.Rows.{HasEntry, stateIn, Listing, ListedMore};
 use table::geometry::Geometry;
 
 // Lists one entry more: its item stands in the list, and counts if its state word is not 0.

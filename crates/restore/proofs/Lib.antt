@@ -1,2 +1,3 @@
 -- What the public calls ensure, cited.
 pub mod Cited
+pub mod Laws

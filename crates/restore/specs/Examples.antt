@@ -1,54 +1,18 @@
 -- Document 01's examples marked P, in one table, and one proof that the definitions give it.
 use Prim.Native.Nat.{ℕ}
-use mathlib.Core.Path.{_≡_, refl}
+use mathlib.Core.Path.{_≡_}
 use mathlib.Core.Bool.{cond}
 use mathlib.Core.List.{List, [], _∷_}
 use lib.Dec.{eqb}
 use lib.ListN.{getD, take, replicate}
-use Rattle.counting.specs.Counting.{every, sum, count}
-use Rattle.counting.specs.First.{first, firstOr}
-use Rattle.counting.specs.Values.{valuesOf}
-use Rattle.table.specs.Geometry.{geometryOf}
-use Rattle.table.specs.Changes.{changeOf}
-use Rattle.table.specs.Stores.{runs, after}
 use Rattle.table.specs.View.{view, current}
-use Rattle.table.specs.MarksPass.{markTo, marksTo}
-use Rattle.table.specs.Copies.{backBy}
 use Rattle.table.specs.declared.answers.Numbers.{Numbers}
 use Rattle.table.specs.Answers.{Plan, numbersAt, tableOf}
-use Rattle.layout.specs.Format.{firstEntries, formatStores, formatMade}
-use Rattle.entries.specs.Frames.{framesIn, framesAt, used, framesFit}
-use Rattle.entries.specs.Items.{itemTest}
-use Rattle.entries.specs.Sound.{marksForm, phasesOf, pointsOf, statesForm, nodeSound, nodesSound, itemSound, itemsSound, sound}
-use Rattle.entries.specs.Check.{lengthOf, sizesOf, soundOf, faultOf}
 use Rattle.homes.specs.declared.places.Place.the-variants.{Current}
-use Rattle.homes.specs.Plans.{planAdmitted, planChecked, planBy}
-use Rattle.homes.specs.Admission.{admissionOf, frameFull, frameAdmission}
-use Rattle.calls.specs.Transitions.{changeTo}
-use Rattle.entries.specs.Dirty.{ownsAt, ownerOf, dirty, dirtyItem}
-use Rattle.checkpoints.specs.Checkpoint.{commonMark, isOpen, openAdmission, liveChanges, entriesBefore}
-use Rattle.checkpoints.specs.Closing.{commitChange, closeChange}
-use Rattle.homes.specs.Home.{sharedAt, sharedItem, hasRoom, placeFits, fits, nodeAfter, fitsAfter, passedOver, homeOf, droppedItem, currentLeft, arrivalOf, dropStores, arrivalChanges, homeStoresBy, homeStores}
-use Rattle.calls.specs.Read.{servesAt, serverOf, fetchFrom, readStores, readValue}
-use Rattle.calls.specs.Write.{otherChanges, otherStores, ownKeep, keptAfter, ownChanges, writeStores}
-use Rattle.homes.specs.Evict.{sourceStores, movedTo, evictStores, placeAdmission}
-use Rattle.checkpoints.specs.Open.{startAdmission}
-use Rattle.checkpoints.specs.Create.{sharesAt, sharerOf, partnerStores as createdPartner, createItem, noPartner, createPlan}
-use Rattle.checkpoints.specs.Commit.{commitStores, createdAdmission}
 use Rattle.survivors.specs.declared.lost.Lost.{Lost}
 use Rattle.survivors.specs.declared.lost.Lost.the-variants.{Nobody, Node}
 use Rattle.restore.specs.declared.call.Call.{Call}
 use Rattle.restore.specs.declared.call.Call.the-variants.{Format, Read, Write, Evict, Open, Create, Commit, Recover}
-use Rattle.counting.specs.Exists.{exists}
-use Rattle.survivors.specs.Survivors.{survivorCount, tooFewWith, tooFew}
-use Rattle.recovery.specs.Sides.{copiesOn, itemFits, itemsFit}
-use Rattle.survivors.specs.Direction.{forwardIn}
-use Rattle.recovery.specs.Rolling.{bringBack, settled, rollChange, rollStores}
-use Rattle.recovery.specs.Numbering.{holders, numberAfter, numberChange, numberStores}
-use Rattle.recovery.specs.Partners.{single, holderOf, takes, takesAfter, partnerOf, partnerChanges, partnerFrom, partnerStores, staged, partnersStores}
-use Rattle.survivors.specs.ClosingMarks.{largest, largestNumber, closingStores}
-use Rattle.recovery.specs.Recover.{followed, survivorStores, recoverStores, survivorsFormed, recoverAdmission, recoverChecked, recoverOf}
-use Rattle.restore.specs.Call.{planOf}
 use Rattle.restore.specs.Run.{Step, geometryIn, storeCount, planAt, tableBy, run}
 
 -- ---- the calls
@@ -202,7 +166,3 @@ examples =
 unfoldable pub Given : List Row → Type 0
 Given [] = Unit {0}
 Given (r ∷ rs) = (r .given ≡ r .written) × Given rs
-
-pub examples-given : Given examples
-unfolding every sum count first firstOr valuesOf geometryOf changeOf runs after view markTo marksTo backBy firstEntries formatStores formatMade framesIn framesAt used framesFit itemTest marksForm phasesOf pointsOf statesForm nodeSound nodesSound itemSound itemsSound sound lengthOf sizesOf soundOf faultOf planAdmitted planChecked planBy admissionOf frameFull frameAdmission changeTo commonMark isOpen openAdmission ownsAt ownerOf dirty dirtyItem liveChanges entriesBefore commitChange closeChange sharedAt sharedItem hasRoom placeFits fits nodeAfter fitsAfter passedOver homeOf droppedItem currentLeft arrivalOf dropStores arrivalChanges homeStoresBy homeStores servesAt serverOf fetchFrom readStores readValue otherChanges otherStores ownKeep keptAfter ownChanges writeStores sourceStores movedTo evictStores placeAdmission startAdmission sharesAt sharerOf createdPartner createItem noPartner createPlan commitStores createdAdmission exists survivorCount forwardIn copiesOn itemFits itemsFit bringBack settled rollChange rollStores holders numberAfter numberChange numberStores single holderOf takes takesAfter partnerOf partnerChanges partnerFrom partnerStores staged partnersStores largest largestNumber closingStores followed survivorStores recoverStores survivorsFormed tooFewWith tooFew recoverAdmission recoverChecked recoverOf planOf run Given
-examples-given = (refl, (refl, (refl, (refl, (refl, (refl, (refl, (refl, (refl, (refl, (refl, (refl, (refl, (refl, (refl, (refl, (refl, (refl, (refl, (refl, (refl, (refl, (refl, (refl, (refl, (refl, (refl, tt)))))))))))))))))))))))))))

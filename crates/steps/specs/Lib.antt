@@ -1,6 +1,4 @@
 -- The definitions that the contracts of `steps` cite, and document 01's records worked by them.
 pub mod Steps
-pub mod StepCode
 pub mod Records
 pub mod Lines
-pub mod StepExamples

@@ -1,7 +1,7 @@
 // The survivors of a recovery: the live nodes but the lost one, of whose words nothing is read, its mark included.
 ghost use mathlib.Core.Path.{_≡_};
 ghost use Prim.Native.Nat.{_≤_};
-ghost use Rattle.counting.specs.Counting.{Counted};
+ghost use Rattle.counting.specs.code.Counting.{Counted};
 ghost use Rattle.table.specs.View.{view, live};
 ghost use Rattle.survivors.specs.Survivors.{survivors, survivorCount, lostOutside, tooFewWith, tooFew};
 use crate::lost::Lost;

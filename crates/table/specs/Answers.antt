@@ -1,8 +1,7 @@
 -- A call's plan: turned down, or carried out by a list of stores; and what a call with that plan answers and leaves at a limit.
-use Prim.Native.Nat.{ℕ, _-_, min}
-use mathlib.Core.Path.{_≡_, refl, sym, ap}
-use mathlib.Core.List.{List, []}
-use native.Mathlib.Omega.{arith}
+use Prim.Native.Nat.{ℕ, min}
+use mathlib.Core.Path.{_≡_}
+use mathlib.Core.List.{List}
 use lib.ListN.{length}
 use Rattle.table.specs.declared.geometry.Geometry.{Geometry}
 use Rattle.table.specs.declared.answers.Refusal.{Refusal}
@@ -10,7 +9,7 @@ use Rattle.table.specs.declared.answers.Refusal.the-variants.{EmptyOrSho
 use Rattle.table.specs.declared.answers.Answer.{Answer}
 use Rattle.table.specs.declared.answers.Answer.the-variants.{Done, NothingLeft, Refused}
 use Rattle.table.specs.declared.answers.Numbers.{Numbers}
-use Rattle.table.specs.Stores.{Store, Stored, after, after-none}
+use Rattle.table.specs.Stores.{Store, after}
 
 -- document 01's number of each refusal
 abbrev pub refusalNumber : Refusal → ℕ
@@ -67,28 +66,6 @@ pub record Meets (p : Plan) (limit : ℕ) (t t′ : List ℕ) (r : Answer) : Typ
   pub numbers : numbersOf r ≡ numbersAt p limit
   pub table : t′ ≡ tableOf p limit t
 
-pub meets-refused : {p : Plan} {x : Refusal} (limit : ℕ) (t : List ℕ) → p ≡ refuse x → Meets p limit t t (Refused x)
-meets-refused limit t h = rw h (record { answer = refl; numbers = refl; table = refl })
-
-pub meets-done :
-    {p : Plan} {g : Geometry} {v left : ℕ} {ss : List Store} (limit : ℕ) {t t′ : List ℕ} → p ≡ carry g v ss → Stored g limit ss t t′ left
-    → Meets p limit t t′ (Done v (limit - left))
-meets-done {v = v} {left} {ss} limit h s =
-    let e : limit - left ≡ min limit (length ss) = omega arith in
-    rw h (record { answer = ap (Done v) e; numbers = ap (λ k. numbersOf (Done v k)) e; table = s .table })
-
--- the numbers of a refusal whose own number is n
-pub numbers-refused :
-    {a : Answer} {x : Refusal} {n : ℕ} → a ≡ Refused x → n ≡ refusalNumber x
-    → record { answer = n; value = 0; stores = 0 } ≡ numbersOf a
-numbers-refused h k = rw (h, k) refl
-
 -- a call that stores nothing: the same at any limit
 pub record Told (p : Plan) (t : List ℕ) (r : Answer) : Type 0 where
   pub meets : (limit : ℕ) → Meets p limit t t r
-
-pub told-refused : {p : Plan} {x : Refusal} (t : List ℕ) → p ≡ refuse x → Told p t (Refused x)
-told-refused t h = record { meets = λ limit. meets-refused limit t h }
-
-pub told-yes : {p : Plan} {g : Geometry} (t : List ℕ) → p ≡ carry g 0 [] → Told p t (Done 0 0)
-told-yes t h = record { meets = λ limit. rw h (record { answer = ap (Done 0) (omega arith); numbers = ap (λ k. numbersOf (Done 0 k)) (omega arith); table = sym (after-none _ limit t) }) }

@@ -4,7 +4,8 @@ ghost use mathlib.Core.List.{[], _∷_};
 ghost use lib.ListN.{getD};
 ghost use Rattle.table.specs.Stores.{Wrote, Stored, StoredIn, runs, sizeStore, markStore, entryStore, stateTo, valueTo, keptTo};
 ghost use Rattle.table.specs.Rows.{nextAhead, placeAhead, freshEntry, rowEntry};
-ghost use Rattle.table.specs.View.{entryWord, view};
+ghost use Rattle.table.specs.View.{view};
+ghost use Rattle.table.specs.code.View.{entryWord};
 use crate::geometry::Geometry;
 
 // The word at a place, or 0 past the end.

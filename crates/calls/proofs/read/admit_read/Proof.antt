@@ -1,8 +1,8 @@
 -- `admit_read` meets its contract: the refusals in their order. Assumes nothing.
 use mathlib.Core.Path.{sym, _∙_}
 use native.Mathlib.Omega.{arith}
-use Rattle.homes.specs.Admission.{admission-tells, frame-turned, frame-none, frame-free}
-use Rattle.calls.specs.ReadCode.{fetch-full}
+use Rattle.homes.proofs.Laws.Admission.{admission-tells, frame-turned, frame-none, frame-free}
+use Rattle.calls.proofs.Laws.ReadCode.{fetch-full}
 use borrow.Author.Needs.{needs}
 use Rattle.calls.proofs.read.admit_read.Statement.{statement}
 use Rattle.calls.proofs.read.admit_read.Tie as tie

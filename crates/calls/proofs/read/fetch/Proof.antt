@@ -1,5 +1,5 @@
 -- `fetch` meets its contract: the stores of `fetchFrom`, in their order. Assumes nothing.
-use Rattle.calls.specs.ReadCode.{fetch-all}
+use Rattle.calls.proofs.Laws.ReadCode.{fetch-all}
 use borrow.Author.Needs.{needs}
 use Rattle.calls.proofs.read.fetch.Statement.{statement}
 use Rattle.calls.proofs.read.fetch.Tie as tie

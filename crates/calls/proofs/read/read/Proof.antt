@@ -1,9 +1,9 @@
 -- `read` meets its contract: a plan for each way out. Assumes nothing.
 use mathlib.Core.Path.{sym, _∙_}
 use native.Mathlib.Omega.{arith}
-use Rattle.table.specs.Answers.{meets-refused}
-use Rattle.homes.specs.Admission.{frame-admits}
-use Rattle.homes.specs.Plans.{plan-failed, plan-turned, plan-admitted, meets-as}
+use Rattle.table.proofs.Laws.Answers.{meets-refused}
+use Rattle.homes.proofs.Laws.Admission.{frame-admits}
+use Rattle.homes.proofs.Laws.Plans.{plan-failed, plan-turned, plan-admitted, meets-as}
 use borrow.Author.Needs.{needs}
 use Rattle.calls.proofs.read.read.Statement.{statement}
 use Rattle.calls.proofs.read.read.Tie as tie

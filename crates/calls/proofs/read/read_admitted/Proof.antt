@@ -1,5 +1,5 @@
 -- `read_admitted` meets its contract: its own copy, or one fetched. Assumes nothing.
-use Rattle.calls.specs.ReadCode.{read-here, read-fetched}
+use Rattle.calls.proofs.Laws.ReadCode.{read-here, read-fetched}
 use borrow.Author.Needs.{needs}
 use Rattle.calls.proofs.read.read_admitted.Statement.{statement}
 use Rattle.calls.proofs.read.read_admitted.Tie as tie

@@ -1,10 +1,11 @@
 -- `server_of` meets its contract: no node before this one serves. Assumes nothing.
 use Prim.Native.Nat.{_≤_, _-_}
 use mathlib.Core.Path.{_≡_, sym, _∙_}
-use Rattle.counting.specs.First.{first, first-starts, first-turns}
+use Rattle.counting.specs.First.{first}
+use Rattle.counting.proofs.Laws.First.{first-starts, first-turns}
 use Rattle.table.specs.View.{view}
 use Rattle.calls.specs.Read.{servesAt}
-use Rattle.calls.specs.ReadCode.{server-found, server-none}
+use Rattle.calls.proofs.Laws.ReadCode.{server-found, server-none}
 use borrow.Author.Needs.{needs}
 use Rattle.calls.proofs.read.server_of.Statement.{statement}
 use Rattle.calls.proofs.read.server_of.Tie as tie

@@ -1,5 +1,5 @@
 -- `serves_at` meets its contract: dead, or as its current place says. Assumes nothing.
-use Rattle.calls.specs.ReadCode.{dead-serves, live-serves}
+use Rattle.calls.proofs.Laws.ReadCode.{dead-serves, live-serves}
 use borrow.Author.Needs.{needs}
 use Rattle.calls.proofs.read.serves_at.Statement.{statement}
 use Rattle.calls.proofs.read.serves_at.Tie as tie

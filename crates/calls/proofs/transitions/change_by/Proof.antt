@@ -1,8 +1,9 @@
 -- `change_by` meets its contract: kept, as it was, or changed. Assumes nothing.
 use mathlib.Core.Path.{ap}
 use mathlib.Core.List.{map}
-use Rattle.table.specs.Stores.{entryStore, stored-as, stored-none}
-use Rattle.calls.specs.Transitions.{by-keep, by-none, by-state}
+use Rattle.table.specs.Stores.{entryStore}
+use Rattle.table.proofs.Laws.Stores.{stored-as, stored-none}
+use Rattle.calls.proofs.Laws.Transitions.{by-keep, by-none, by-state}
 use borrow.Author.Needs.{needs}
 use Rattle.calls.proofs.transitions.change_by.Statement.{statement}
 use Rattle.calls.proofs.transitions.change_by.Tie as tie

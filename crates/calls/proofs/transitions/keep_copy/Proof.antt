@@ -1,5 +1,5 @@
 -- `keep_copy` meets its contract: one store after the other. Assumes nothing.
-use Rattle.table.specs.Stores.{stored-two}
+use Rattle.table.proofs.Laws.Stores.{stored-two}
 use borrow.Author.Needs.{needs}
 use Rattle.calls.proofs.transitions.keep_copy.Statement.{statement}
 use Rattle.calls.proofs.transitions.keep_copy.Tie as tie

@@ -1,7 +1,8 @@
 -- `admit_write` meets its contract: the refusals in their order. Assumes nothing.
 use mathlib.Core.Path.{sym, ap, _∙_}
 use native.Mathlib.Omega.{arith}
-use Rattle.homes.specs.Admission.{frameFull, admission-tells, frame-turned, frame-none, frame-free}
+use Rattle.homes.specs.Admission.{frameFull}
+use Rattle.homes.proofs.Laws.Admission.{admission-tells, frame-turned, frame-none, frame-free}
 use Rattle.calls.specs.Write.{needsFrame}
 use Rattle.table.specs.Words.{currentOf}
 use borrow.Author.Needs.{needs}

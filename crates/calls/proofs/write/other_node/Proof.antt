@@ -1,8 +1,9 @@
 -- `other_node` meets its contract: passed over, or changed. Assumes nothing.
 use mathlib.Core.Path.{ap}
 use mathlib.Core.List.{map}
-use Rattle.table.specs.Stores.{entryStore, stored-as, stored-none}
-use Rattle.calls.specs.WriteCode.{node-passed, node-turned}
+use Rattle.table.specs.Stores.{entryStore}
+use Rattle.table.proofs.Laws.Stores.{stored-as, stored-none}
+use Rattle.calls.proofs.Laws.WriteCode.{node-passed, node-turned}
 use borrow.Author.Needs.{needs}
 use Rattle.calls.proofs.write.other_node.Statement.{statement}
 use Rattle.calls.proofs.write.other_node.Tie as tie

@@ -1,10 +1,11 @@
 -- `other_nodes` meets its contract: a turn finds its entry as it was at the start. Assumes nothing.
 use Prim.Native.Nat.{_≤_, _-_}
-use Rattle.table.specs.Stores.{Stored, loop-starts, loop-ends}
+use Rattle.table.specs.Stores.{Stored}
+use Rattle.table.proofs.Laws.Stores.{loop-starts, loop-ends}
 use Rattle.table.specs.View.{view}
 use Rattle.table.specs.Pass.{pass}
 use Rattle.calls.specs.Write.{otherChanges, otherStores}
-use Rattle.calls.specs.WriteCode.{other-turn}
+use Rattle.calls.proofs.Laws.WriteCode.{other-turn}
 use borrow.Author.Needs.{needs}
 use Rattle.calls.proofs.write.other_nodes.Statement.{statement}
 use Rattle.calls.proofs.write.other_nodes.Tie as tie

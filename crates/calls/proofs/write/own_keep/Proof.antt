@@ -3,8 +3,9 @@ use mathlib.Core.Path.{ap, _∙_}
 use mathlib.Core.List.{map}
 use borrow.Author.Needs.{needs}
 use Rattle.table.specs.Changes.{checkpointOf}
-use Rattle.table.specs.Stores.{entryStore, stored-as, stored-none}
-use Rattle.calls.specs.WriteCode.{own-keeps-none, own-keeps}
+use Rattle.table.specs.Stores.{entryStore}
+use Rattle.table.proofs.Laws.Stores.{stored-as, stored-none}
+use Rattle.calls.proofs.Laws.WriteCode.{own-keeps-none, own-keeps}
 use Rattle.calls.proofs.write.own_keep.Statement.{statement}
 use Rattle.calls.proofs.write.own_keep.Tie as tie
 

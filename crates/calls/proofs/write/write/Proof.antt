@@ -1,10 +1,10 @@
 -- `write` meets its contract: a plan for each way out. Assumes nothing.
 use mathlib.Core.Path.{sym, _∙_}
 use native.Mathlib.Omega.{arith}
-use Rattle.table.specs.Answers.{meets-refused, meets-done}
-use Rattle.entries.specs.CheckFacts.{accepted-facts}
-use Rattle.homes.specs.Admission.{frame-admits}
-use Rattle.homes.specs.Plans.{plan-failed, plan-turned, plan-admitted}
+use Rattle.table.proofs.Laws.Answers.{meets-refused, meets-done}
+use Rattle.entries.proofs.Laws.CheckFacts.{accepted-facts}
+use Rattle.homes.proofs.Laws.Admission.{frame-admits}
+use Rattle.homes.proofs.Laws.Plans.{plan-failed, plan-turned, plan-admitted}
 use borrow.Author.Needs.{needs}
 use Rattle.calls.proofs.write.write.Statement.{statement}
 use Rattle.calls.proofs.write.write.Tie as tie

@@ -1,5 +1,5 @@
 -- `abandon_stores` meets its contract: the entries, then one word on every live mark. Assumes nothing.
-use Rattle.checkpoints.specs.ClosingCode.{word-same, abandon-then}
+use Rattle.checkpoints.proofs.Laws.ClosingCode.{word-same, abandon-then}
 use borrow.Author.Needs.{needs}
 use Rattle.checkpoints.proofs.abandon.abandon_stores.Statement.{statement}
 use Rattle.checkpoints.proofs.abandon.abandon_stores.Tie as tie

@@ -1,8 +1,9 @@
 -- `abandon_entry` meets its contract: one state store, or none. Assumes nothing.
 use mathlib.Core.List.{map}
 use mathlib.Core.Path.{ap}
-use Rattle.table.specs.Stores.{entryStore, stored-as, stored-none}
-use Rattle.checkpoints.specs.Closing.{abandon-changes, abandon-stays}
+use Rattle.table.specs.Stores.{entryStore}
+use Rattle.table.proofs.Laws.Stores.{stored-as, stored-none}
+use Rattle.checkpoints.proofs.Laws.Closing.{abandon-changes, abandon-stays}
 use borrow.Author.Needs.{needs}
 use Rattle.checkpoints.proofs.checkpoint.abandon_entry.Statement.{statement}
 use Rattle.checkpoints.proofs.checkpoint.abandon_entry.Tie as tie

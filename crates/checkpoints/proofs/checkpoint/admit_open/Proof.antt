@@ -1,5 +1,5 @@
 -- `admit_open` meets its contract: phase 1, or 8. Assumes nothing.
-use Rattle.checkpoints.specs.Checkpoint.{open-yes, open-no}
+use Rattle.checkpoints.proofs.Laws.Checkpoint.{open-yes, open-no}
 use borrow.Author.Needs.{needs}
 use Rattle.checkpoints.proofs.checkpoint.admit_open.Statement.{statement}
 use Rattle.checkpoints.proofs.checkpoint.admit_open.Tie as tie

@@ -2,9 +2,10 @@
 use mathlib.Core.List.{map}
 use mathlib.Core.Path.{ap}
 use native.Mathlib.Omega.{arith}
-use Rattle.table.specs.Stores.{entryStore, stored-as}
-use Rattle.checkpoints.specs.Checkpoint.{lies-within, lies-state}
-use Rattle.checkpoints.specs.Closing.{close-commits, close-abandons}
+use Rattle.table.specs.Stores.{entryStore}
+use Rattle.table.proofs.Laws.Stores.{stored-as}
+use Rattle.checkpoints.proofs.Laws.Checkpoint.{lies-within, lies-state}
+use Rattle.checkpoints.proofs.Laws.Closing.{close-commits, close-abandons}
 use borrow.Author.Needs.{needs}
 use Rattle.checkpoints.proofs.checkpoint.close_entry.Statement.{statement}
 use Rattle.checkpoints.proofs.checkpoint.close_entry.Tie as tie

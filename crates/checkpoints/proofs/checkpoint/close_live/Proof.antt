@@ -2,11 +2,13 @@
 use Prim.Native.Nat.{_≤_, _-_}
 use mathlib.Core.Path.{_≡_}
 use native.Mathlib.Omega.{arith}
-use Rattle.table.specs.Geometry.{entryAt, entry-within}
-use Rattle.table.specs.Stores.{Stored, loop-starts, loop-ends}
+use Rattle.table.specs.Geometry.{entryAt}
+use Rattle.table.proofs.Laws.Geometry.{entry-within}
+use Rattle.table.specs.Stores.{Stored}
+use Rattle.table.proofs.Laws.Stores.{loop-starts, loop-ends}
 use Rattle.table.specs.View.{view}
 use Rattle.table.specs.Pass.{pass}
-use Rattle.checkpoints.specs.Checkpoint.{live-turn}
+use Rattle.checkpoints.proofs.Laws.Checkpoint.{live-turn}
 use Rattle.checkpoints.specs.Closing.{closeChange}
 use borrow.Author.Needs.{needs}
 use Rattle.checkpoints.proofs.checkpoint.close_live.Statement.{statement}

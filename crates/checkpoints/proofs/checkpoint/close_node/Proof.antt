@@ -1,5 +1,5 @@
 -- `close_node` meets its contract: a dead node, or a live one. Assumes nothing.
-use Rattle.checkpoints.specs.Checkpoint.{dead-node, live-node}
+use Rattle.checkpoints.proofs.Laws.Checkpoint.{dead-node, live-node}
 use borrow.Author.Needs.{needs}
 use Rattle.checkpoints.proofs.checkpoint.close_node.Statement.{statement}
 use Rattle.checkpoints.proofs.checkpoint.close_node.Tie as tie

@@ -1,8 +1,9 @@
 -- `commit_entry` meets its contract: passed over, one state store, or none. Assumes nothing.
 use mathlib.Core.List.{map}
 use mathlib.Core.Path.{ap}
-use Rattle.table.specs.Stores.{entryStore, stored-as, stored-none}
-use Rattle.checkpoints.specs.Closing.{turned-fits, commit-passes, commit-changes, commit-stays}
+use Rattle.table.specs.Stores.{entryStore}
+use Rattle.table.proofs.Laws.Stores.{stored-as, stored-none}
+use Rattle.checkpoints.proofs.Laws.Closing.{turned-fits, commit-passes, commit-changes, commit-stays}
 use borrow.Author.Needs.{needs}
 use Rattle.checkpoints.proofs.checkpoint.commit_entry.Statement.{statement}
 use Rattle.checkpoints.proofs.checkpoint.commit_entry.Tie as tie

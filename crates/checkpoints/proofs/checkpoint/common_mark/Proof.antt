@@ -2,9 +2,10 @@
 use Prim.Native.Nat.{_≤_, _-_}
 use mathlib.Core.Path.{_≡_}
 use borrow.Author.Needs.{needs}
-use Rattle.counting.specs.First.{first, first-starts}
+use Rattle.counting.specs.First.{first}
+use Rattle.counting.proofs.Laws.First.{first-starts}
 use Rattle.table.specs.View.{view, live}
-use Rattle.checkpoints.specs.Checkpoint.{common-here, common-none, common-passes}
+use Rattle.checkpoints.proofs.Laws.Checkpoint.{common-here, common-none, common-passes}
 use Rattle.checkpoints.proofs.checkpoint.common_mark.Statement.{statement}
 use Rattle.checkpoints.proofs.checkpoint.common_mark.Tie as tie
 

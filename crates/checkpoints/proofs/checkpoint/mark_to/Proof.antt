@@ -1,6 +1,6 @@
 -- `mark_to` meets its contract: a dead node, or a live one. Assumes nothing.
-use Rattle.table.specs.Stores.{stored-as, stored-none}
-use Rattle.table.specs.MarksPass.{mark-passed, mark-turned}
+use Rattle.table.proofs.Laws.Stores.{stored-as, stored-none}
+use Rattle.table.proofs.Laws.MarksPass.{mark-passed, mark-turned}
 use borrow.Author.Needs.{needs}
 use Rattle.checkpoints.proofs.checkpoint.mark_to.Statement.{statement}
 use Rattle.checkpoints.proofs.checkpoint.mark_to.Tie as tie

@@ -3,9 +3,11 @@ use Prim.Native.Nat.{_≤_, _-_}
 use mathlib.Core.Path.{_≡_, refl, _∙_}
 use lib.ListN.{length}
 use Rattle.table.specs.Geometry.{wordsOf}
-use Rattle.table.specs.Stores.{Stored, runs, loop-starts, loop-ends}
+use Rattle.table.specs.Stores.{Stored, runs}
+use Rattle.table.proofs.Laws.Stores.{loop-starts, loop-ends}
 use Rattle.table.specs.View.{view}
-use Rattle.table.specs.MarksPass.{markTo, marksTo, marks-turn}
+use Rattle.table.specs.MarksPass.{markTo, marksTo}
+use Rattle.table.proofs.Laws.MarksPass.{marks-turn}
 use borrow.Author.Needs.{needs}
 use Rattle.checkpoints.proofs.checkpoint.marks_to.Statement.{statement}
 use Rattle.checkpoints.proofs.checkpoint.marks_to.Tie as tie

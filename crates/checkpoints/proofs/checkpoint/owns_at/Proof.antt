@@ -1,7 +1,7 @@
 -- `owns_at` meets its contract: live, and Owner or Modified. Assumes nothing.
 use mathlib.Core.Path.{ap, _∙_}
 use Rattle.table.specs.Words.{currentOf}
-use Rattle.checkpoints.specs.Checkpoint.{owns-here}
+use Rattle.checkpoints.proofs.Laws.Checkpoint.{owns-here}
 use borrow.Author.Needs.{needs}
 use Rattle.checkpoints.proofs.checkpoint.owns_at.Statement.{statement}
 use Rattle.checkpoints.proofs.checkpoint.owns_at.Tie as tie

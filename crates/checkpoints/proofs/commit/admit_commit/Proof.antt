@@ -1,6 +1,6 @@
 -- `admit_commit` meets its contract: 8, 12, or admitted. Assumes nothing.
 use borrow.Author.Tests.{lt-ltb, le-ltb}
-use Rattle.checkpoints.specs.Commit.{commit-turned, commit-dirty, commit-admitted}
+use Rattle.checkpoints.proofs.Laws.Commit.{commit-turned, commit-dirty, commit-admitted}
 use borrow.Author.Needs.{needs}
 use Rattle.checkpoints.proofs.commit.admit_commit.Statement.{statement}
 use Rattle.checkpoints.proofs.commit.admit_commit.Tie as tie

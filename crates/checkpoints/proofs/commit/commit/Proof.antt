@@ -1,9 +1,9 @@
 -- `commit` meets its contract: a plan for each way out. Assumes nothing.
 use mathlib.Core.Path.{refl, sym}
-use Rattle.table.specs.Answers.{meets-refused, meets-done}
-use Rattle.entries.specs.Check.{refused-failed, sound-passed}
-use Rattle.homes.specs.Plans.{plan-failed, plan-turned, plan-admitted}
-use Rattle.checkpoints.specs.ClosingCode.{passed-agreed}
+use Rattle.table.proofs.Laws.Answers.{meets-refused, meets-done}
+use Rattle.entries.proofs.Laws.Check.{refused-failed, sound-passed}
+use Rattle.homes.proofs.Laws.Plans.{plan-failed, plan-turned, plan-admitted}
+use Rattle.checkpoints.proofs.Laws.ClosingCode.{passed-agreed}
 use borrow.Author.Needs.{needs}
 use Rattle.checkpoints.proofs.commit.commit.Statement.{statement}
 use Rattle.checkpoints.proofs.commit.commit.Tie as tie

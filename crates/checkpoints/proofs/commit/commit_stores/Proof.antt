@@ -1,6 +1,6 @@
 -- `commit_stores` meets its contract: marks, entries, marks. Assumes nothing.
 use native.Mathlib.Omega.{arith}
-use Rattle.checkpoints.specs.ClosingCode.{word-next, commit-then}
+use Rattle.checkpoints.proofs.Laws.ClosingCode.{word-next, commit-then}
 use borrow.Author.Needs.{needs}
 use Rattle.checkpoints.proofs.commit.commit_stores.Statement.{statement}
 use Rattle.checkpoints.proofs.commit.commit_stores.Tie as tie

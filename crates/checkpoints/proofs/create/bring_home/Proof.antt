@@ -1,5 +1,5 @@
 -- `bring_home` meets its contract: the owner's state, then the home's stores. Assumes nothing.
-use Rattle.checkpoints.specs.CreateCode.{taken-then}
+use Rattle.checkpoints.proofs.Laws.CreateCode.{taken-then}
 use borrow.Author.Needs.{needs}
 use Rattle.checkpoints.proofs.create.bring_home.Statement.{statement}
 use Rattle.checkpoints.proofs.create.bring_home.Tie as tie

@@ -1,8 +1,8 @@
 -- `create` meets its contract: a plan for each way out. Assumes nothing.
 use mathlib.Core.Path.{refl}
-use Rattle.table.specs.Answers.{meets-refused}
-use Rattle.entries.specs.Check.{refused-failed, sound-passed}
-use Rattle.homes.specs.Plans.{plan-failed, plan-turned, plan-admitted, meets-as}
+use Rattle.table.proofs.Laws.Answers.{meets-refused}
+use Rattle.entries.proofs.Laws.Check.{refused-failed, sound-passed}
+use Rattle.homes.proofs.Laws.Plans.{plan-failed, plan-turned, plan-admitted, meets-as}
 use borrow.Author.Needs.{needs}
 use Rattle.checkpoints.proofs.create.create.Statement.{statement}
 use Rattle.checkpoints.proofs.create.create.Tie as tie

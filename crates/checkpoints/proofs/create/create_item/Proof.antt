@@ -1,6 +1,6 @@
 -- `create_item` meets its contract: a sharer, 11, or a home. Assumes nothing.
-use Rattle.table.specs.Answers.{meets-refused, meets-done}
-use Rattle.checkpoints.specs.CreateCode.{item-shared, item-none, item-taken}
+use Rattle.table.proofs.Laws.Answers.{meets-refused, meets-done}
+use Rattle.checkpoints.proofs.Laws.CreateCode.{item-shared, item-none, item-taken}
 use borrow.Author.Needs.{needs}
 use Rattle.checkpoints.proofs.create.create_item.Statement.{statement}
 use Rattle.checkpoints.proofs.create.create_item.Tie as tie

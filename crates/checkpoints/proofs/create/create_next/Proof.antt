@@ -1,6 +1,6 @@
 -- `create_next` meets its contract: an item, or 17. Assumes nothing.
-use Rattle.checkpoints.specs.CreateCode.{none-left, next-owned, next-meets}
-use Rattle.homes.specs.Plans.{meets-nothing}
+use Rattle.checkpoints.proofs.Laws.CreateCode.{none-left, next-owned, next-meets}
+use Rattle.homes.proofs.Laws.Plans.{meets-nothing}
 use borrow.Author.Needs.{needs}
 use Rattle.checkpoints.proofs.create.create_next.Statement.{statement}
 use Rattle.checkpoints.proofs.create.create_next.Tie as tie

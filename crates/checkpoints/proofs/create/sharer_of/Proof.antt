@@ -2,7 +2,8 @@
 use Prim.Native.Nat.{_≤_, _-_}
 use mathlib.Core.Path.{_≡_, sym, _∙_}
 use borrow.Author.Needs.{needs}
-use Rattle.counting.specs.First.{first, first-starts, first-turns, first-found, first-ends}
+use Rattle.counting.specs.First.{first}
+use Rattle.counting.proofs.Laws.First.{first-starts, first-turns, first-found, first-ends}
 use Rattle.table.specs.View.{view}
 use Rattle.checkpoints.specs.Create.{sharesAt, sharerOf}
 use Rattle.checkpoints.proofs.create.sharer_of.Statement.{statement}

@@ -1,7 +1,7 @@
 -- `shares_at` meets its contract: live, and Shared. Assumes nothing.
 use mathlib.Core.Path.{ap, _∙_}
 use Rattle.table.specs.Words.{currentOf}
-use Rattle.checkpoints.specs.CreateCode.{shares-here}
+use Rattle.checkpoints.proofs.Laws.CreateCode.{shares-here}
 use borrow.Author.Needs.{needs}
 use Rattle.checkpoints.proofs.create.shares_at.Statement.{statement}
 use Rattle.checkpoints.proofs.create.shares_at.Tie as tie

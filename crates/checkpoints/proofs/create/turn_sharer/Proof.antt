@@ -1,5 +1,5 @@
 -- `turn_sharer` meets its contract: two stores, by the kept places read. Assumes nothing.
-use Rattle.checkpoints.specs.CreateCode.{sharer-then}
+use Rattle.checkpoints.proofs.Laws.CreateCode.{sharer-then}
 use borrow.Author.Needs.{needs}
 use Rattle.checkpoints.proofs.create.turn_sharer.Statement.{statement}
 use Rattle.checkpoints.proofs.create.turn_sharer.Tie as tie

@@ -1,5 +1,5 @@
 -- `admit_start` meets its contract: 7, 13, or admitted. Assumes nothing.
-use Rattle.checkpoints.specs.Open.{start-open, start-last, start-yes}
+use Rattle.checkpoints.proofs.Laws.Open.{start-open, start-last, start-yes}
 use borrow.Author.Needs.{needs}
 use Rattle.checkpoints.proofs.open.admit_start.Statement.{statement}
 use Rattle.checkpoints.proofs.open.admit_start.Tie as tie

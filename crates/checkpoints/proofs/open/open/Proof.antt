@@ -1,8 +1,8 @@
 -- `open` meets its contract: a plan for each way out. Assumes nothing.
 use mathlib.Core.Path.{sym, _∙_}
-use Rattle.table.specs.Answers.{meets-refused, meets-done}
-use Rattle.homes.specs.Plans.{plan-failed, plan-turned, plan-admitted}
-use Rattle.checkpoints.specs.ClosingCode.{passed-agreed}
+use Rattle.table.proofs.Laws.Answers.{meets-refused, meets-done}
+use Rattle.homes.proofs.Laws.Plans.{plan-failed, plan-turned, plan-admitted}
+use Rattle.checkpoints.proofs.Laws.ClosingCode.{passed-agreed}
 use borrow.Author.Needs.{needs}
 use Rattle.checkpoints.proofs.open.open.Statement.{statement}
 use Rattle.checkpoints.proofs.open.open.Tie as tie

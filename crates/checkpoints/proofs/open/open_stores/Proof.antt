@@ -1,5 +1,5 @@
 -- `open_stores` meets its contract: one word on every live mark. Assumes nothing.
-use Rattle.checkpoints.specs.ClosingCode.{word-same, open-then}
+use Rattle.checkpoints.proofs.Laws.ClosingCode.{word-same, open-then}
 use borrow.Author.Needs.{needs}
 use Rattle.checkpoints.proofs.open.open_stores.Statement.{statement}
 use Rattle.checkpoints.proofs.open.open_stores.Tie as tie

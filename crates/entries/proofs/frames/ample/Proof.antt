@@ -1,6 +1,6 @@
 -- `ample` meets its contract. Assumes nothing.
 use borrow.Author.Needs.{needs}
-use Rattle.entries.specs.Frames.{ample-read}
+use Rattle.entries.proofs.Laws.Frames.{ample-read}
 use Rattle.entries.proofs.frames.ample.Statement.{statement}
 use Rattle.entries.proofs.frames.ample.Tie as tie
 

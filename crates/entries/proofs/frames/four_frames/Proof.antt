@@ -1,7 +1,7 @@
 -- `four_frames` meets its contract: entry by entry. Assumes nothing.
 use native.Mathlib.Omega.{arith}
 use borrow.Author.Needs.{needs}
-use Rattle.entries.specs.RowFrames.{four-read}
+use Rattle.entries.proofs.Laws.RowFrames.{four-read}
 use Rattle.entries.proofs.frames.four_frames.Statement.{statement}
 use Rattle.entries.proofs.frames.four_frames.Tie as tie
 

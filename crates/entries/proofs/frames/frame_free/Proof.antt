@@ -1,6 +1,6 @@
 -- `frame_free` meets its contract: told by the state word, or counted. Assumes nothing.
 use borrow.Author.Needs.{needs}
-use Rattle.entries.specs.Frames.{free-told, free-counted}
+use Rattle.entries.proofs.Laws.Frames.{free-told, free-counted}
 use Rattle.entries.proofs.frames.frame_free.Statement.{statement}
 use Rattle.entries.proofs.frames.frame_free.Tie as tie
 

@@ -1,6 +1,7 @@
 -- `frames_at` meets its contract: an entry of the set, or of another. Assumes nothing.
 use mathlib.Core.Path.{ap, _∙_}
-use Rattle.entries.specs.Frames.{framesIn, frames-here, frames-elsewhere}
+use Rattle.entries.specs.Frames.{framesIn}
+use Rattle.entries.proofs.Laws.Frames.{frames-here, frames-elsewhere}
 use borrow.Author.Needs.{needs}
 use Rattle.entries.proofs.frames.frames_at.Statement.{statement}
 use Rattle.entries.proofs.frames.frames_at.Tie as tie

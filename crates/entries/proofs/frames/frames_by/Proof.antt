@@ -1,8 +1,8 @@
 -- `frames_by` meets its contract: the digit is that of the top bits. Assumes nothing.
 use native.Mathlib.Omega.{arith}
 use borrow.Author.Needs.{needs}
-use Rattle.entries.specs.Frames.{frames-two}
-use Rattle.entries.specs.RowFrames.{digits-long, digit-read}
+use Rattle.entries.proofs.Laws.Frames.{frames-two}
+use Rattle.entries.proofs.Laws.RowFrames.{digits-long, digit-read}
 use Rattle.entries.proofs.frames.frames_by.Statement.{statement}
 use Rattle.entries.proofs.frames.frames_by.Tie as tie
 

@@ -3,7 +3,8 @@ use Prim.Native.Nat.{_≤_, _-_}
 use mathlib.Core.Path.{_≡_, ap₂}
 use native.Mathlib.Omega.{arith}
 use borrow.Author.Needs.{needs}
-use Rattle.counting.specs.Counting.{every, every-none, every-next, every-ends}
+use Rattle.counting.specs.Counting.{every}
+use Rattle.counting.proofs.Laws.Counting.{every-none, every-next, every-ends}
 use lib.Dec.{leb}
 use Rattle.table.specs.View.{view}
 use Rattle.entries.specs.Frames.{setsOf, setFrames, used, framesFit}

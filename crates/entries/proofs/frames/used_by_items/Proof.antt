@@ -3,7 +3,8 @@ use Prim.Native.Nat.{_≤_, _-_, _*_}
 use mathlib.Core.Path.{_≡_, ap, _∙_}
 use native.Mathlib.Omega.{arith}
 use borrow.Author.Needs.{needs}
-use Rattle.counting.specs.Counting.{sum, sum-none, sum-next}
+use Rattle.counting.specs.Counting.{sum}
+use Rattle.counting.proofs.Laws.Counting.{sum-none, sum-next}
 use Rattle.entries.specs.Frames.{framesAt, used}
 use Rattle.table.specs.View.{view}
 use Rattle.entries.proofs.frames.used_by_items.Statement.{statement}

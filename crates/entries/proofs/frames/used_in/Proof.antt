@@ -2,7 +2,7 @@
 use Prim.Native.Nat.{_+_, _*_}
 use lib.ListN.{length}
 use borrow.Author.Needs.{needs}
-use Rattle.entries.specs.RowFrames.{row-within, row-used}
+use Rattle.entries.proofs.Laws.RowFrames.{row-within, row-used}
 use Rattle.entries.proofs.frames.used_in.Statement.{statement}
 use Rattle.entries.proofs.frames.used_in.Tie as tie
 

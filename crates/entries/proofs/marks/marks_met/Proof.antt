@@ -3,7 +3,7 @@ use Prim.Native.Nat.{_≤_, _-_}
 use mathlib.Core.Logic.{⊎-elim}
 use borrow.Author.Needs.{needs}
 use Rattle.table.specs.View.{view}
-use Rattle.entries.specs.MarksLoop.{Marking, marking-none, marking-first, marking-next, marking-all}
+use Rattle.entries.proofs.Laws.MarksLoop.{Marking, marking-none, marking-first, marking-next, marking-all}
 use Rattle.entries.proofs.marks.marks_met.Statement.{statement}
 use Rattle.entries.proofs.marks.marks_met.Tie as tie
 

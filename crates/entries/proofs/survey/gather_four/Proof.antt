@@ -1,7 +1,7 @@
 -- `gather_four` meets its contract: one entry, and one more three times. Assumes nothing.
 use native.Mathlib.Omega.{arith}
 use borrow.Author.Needs.{needs}
-use Rattle.entries.specs.SurveyGather.{gathered-then}
+use Rattle.entries.proofs.Laws.SurveyGather.{gathered-then}
 use Rattle.entries.proofs.survey.gather_four.Statement.{statement}
 use Rattle.entries.proofs.survey.gather_four.Tie as tie
 

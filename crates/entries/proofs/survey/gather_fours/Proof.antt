@@ -3,8 +3,9 @@ use Prim.Native.Nat.{ℕ, _+_, _-_, _*_, _/_, _≤_}
 use mathlib.Core.Path.{_≡_}
 use native.Mathlib.Omega.{arith}
 use borrow.Author.Needs.{needs}
-use Rattle.entries.specs.Row.{rowState}
-use Rattle.entries.specs.SurveyGather.{Gathering, gathering-at, gathering-none}
+use Rattle.entries.specs.code.Row.{rowState}
+use Rattle.entries.specs.code.SurveyGather.{Gathering}
+use Rattle.entries.proofs.Laws.SurveyGather.{gathering-at, gathering-none}
 use Rattle.entries.proofs.survey.gather_fours.Statement.{statement}
 use Rattle.entries.proofs.survey.gather_fours.Tie as tie
 

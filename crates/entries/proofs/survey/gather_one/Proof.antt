@@ -6,8 +6,8 @@ use native.Mathlib.Omega.{arith}
 use lib.Dec.{eqb}
 use lib.ListN.{getD}
 use borrow.Author.Needs.{needs}
-use Rattle.counting.specs.Counting.{bit-counted}
-use Rattle.entries.specs.SurveyGather.{gathered-one, bit-fits}
+use Rattle.counting.proofs.Laws.Counting.{bit-counted}
+use Rattle.entries.proofs.Laws.SurveyGather.{gathered-one, bit-fits}
 use Rattle.entries.proofs.survey.gather_one.Statement.{statement}
 use Rattle.entries.proofs.survey.gather_one.Tie as tie
 

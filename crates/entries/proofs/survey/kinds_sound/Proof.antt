@@ -3,7 +3,7 @@ use Prim.Native.Nat.{_≤_, _*_}
 use mathlib.Core.Path.{_≡_}
 use native.Mathlib.Omega.{arith}
 use borrow.Author.Needs.{needs}
-use Rattle.entries.specs.SurveyDirty.{KindsFrom, kinds-start, kinds-turn, kinds-end}
+use Rattle.entries.proofs.Laws.SurveyDirty.{KindsFrom, kinds-start, kinds-turn, kinds-end}
 use Rattle.entries.proofs.survey.kinds_sound.Statement.{statement}
 use Rattle.entries.proofs.survey.kinds_sound.Tie as tie
 

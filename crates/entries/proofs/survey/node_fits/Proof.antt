@@ -2,7 +2,7 @@
 use mathlib.Core.Path.{sym, ap, _∙_}
 use lib.Dec.{leb}
 use borrow.Author.Needs.{needs}
-use Rattle.entries.specs.SurveySound.{fits-one, fits-sets}
+use Rattle.entries.proofs.Laws.SurveySound.{fits-one, fits-sets}
 use Rattle.entries.proofs.survey.node_fits.Statement.{statement}
 use Rattle.entries.proofs.survey.node_fits.Tie as tie
 

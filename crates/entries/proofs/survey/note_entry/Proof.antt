@@ -3,7 +3,7 @@ use Prim.Native.Nat.{_+_}
 use native.Mathlib.Omega.{arith}
 use lib.ListN.{getD, length-set}
 use borrow.Author.Needs.{needs}
-use Rattle.entries.specs.SurveyNoting.{entry-noted}
+use Rattle.entries.proofs.Laws.SurveyNoting.{entry-noted}
 use Rattle.entries.proofs.survey.note_entry.Statement.{statement}
 use Rattle.entries.proofs.survey.note_entry.Tie as tie
 

@@ -6,7 +6,7 @@ use lib.ListN.{length, getD}
 use borrow.Author.Needs.{needs}
 use Rattle.table.specs.declared.geometry.Geometry.{Geometry}
 use Rattle.table.proofs.geometry.Geometry.entry_at.Reads as entry-at-reads
-use Rattle.entries.specs.SurveyNoting.{RowSet, NotedTo, row-asks, row-set, row-starts, row-turns, row-ends, row-few, row-listed, turn-fits, turn-asks, turn-frames, turn-noted}
+use Rattle.entries.proofs.Laws.SurveyNoting.{RowSet, NotedTo, row-asks, row-set, row-starts, row-turns, row-ends, row-few, row-listed, turn-fits, turn-asks, turn-frames, turn-noted}
 use Rattle.entries.proofs.survey.occupied.Reads as occupied-reads
 use Rattle.entries.proofs.survey.note_entry.Reads as note-entry-reads
 use Rattle.entries.proofs.survey.note_row.Statement.{statement}

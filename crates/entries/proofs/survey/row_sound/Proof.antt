@@ -1,6 +1,6 @@
 -- `row_sound` meets its contract: a dead node, or the row of a live one. Assumes nothing.
 use borrow.Author.Needs.{needs}
-use Rattle.entries.specs.SurveySound.{row-dead, row-ready, row-frames, row-live}
+use Rattle.entries.proofs.Laws.SurveySound.{row-dead, row-ready, row-frames, row-live}
 use Rattle.entries.proofs.survey.row_sound.Statement.{statement}
 use Rattle.entries.proofs.survey.row_sound.Tie as tie
 

@@ -5,7 +5,8 @@ use native.Mathlib.Omega.{arith}
 use lib.ListN.{length}
 use Rattle.table.specs.View.{view}
 use borrow.Author.Needs.{needs}
-use Rattle.entries.specs.SurveySound.{RowsSurveyed, rows-none, rows-on, rows-next, rows-all}
+use Rattle.entries.specs.code.SurveySound.{RowsSurveyed}
+use Rattle.entries.proofs.Laws.SurveySound.{rows-none, rows-on, rows-next, rows-all}
 use Rattle.entries.proofs.survey.rows_sound.Statement.{statement}
 use Rattle.entries.proofs.survey.rows_sound.Tie as tie
 

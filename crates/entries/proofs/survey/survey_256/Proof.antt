@@ -2,7 +2,7 @@
 use native.Mathlib.Omega.{arith}
 use lib.ListN.{getD-replicate}
 use borrow.Author.Needs.{needs}
-use Rattle.entries.specs.SurveySound.{surveying-starts}
+use Rattle.entries.proofs.Laws.SurveySound.{surveying-starts}
 use Rattle.entries.proofs.survey.survey_256.Statement.{statement}
 use Rattle.entries.proofs.survey.survey_256.Tie as tie
 

@@ -1,6 +1,6 @@
 -- `survey_in` meets its contract: rows and kinds together. Assumes nothing.
 use borrow.Author.Needs.{needs}
-use Rattle.entries.specs.SurveyDirty.{survey-found}
+use Rattle.entries.proofs.Laws.SurveyDirty.{survey-found}
 use Rattle.entries.proofs.survey.survey_in.Statement.{statement}
 use Rattle.entries.proofs.survey.survey_in.Tie as tie
 

@@ -1,7 +1,7 @@
 -- `weight` meets its contract: an arm for each value of the six top bits. Assumes nothing.
 use mathlib.Core.Path.{sym, ap}
-use Rattle.entries.specs.Survey.{codesForm, holds, holdsAt, keepsAt, framesBy, weightOf}
-use Rattle.entries.specs.SurveyWeight.{none-left}
+use Rattle.entries.specs.code.Survey.{codesForm, holds, holdsAt, keepsAt, framesBy, weightOf}
+use Rattle.entries.proofs.Laws.SurveyWeight.{none-left}
 use Rattle.entries.proofs.survey.weight.Statement.{statement}
 use Rattle.entries.proofs.survey.weight.Tie as tie
 

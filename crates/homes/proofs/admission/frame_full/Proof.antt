@@ -1,5 +1,5 @@
 -- `frame_full` meets its contract: needed, and no frame of the set free. Assumes nothing.
-use Rattle.homes.specs.Admission.{frame-spared, frame-asked}
+use Rattle.homes.proofs.Laws.Admission.{frame-spared, frame-asked}
 use borrow.Author.Tests.{not-true, not-false}
 use borrow.Author.Needs.{needs}
 use Rattle.homes.proofs.admission.frame_full.Statement.{statement}

@@ -1,5 +1,5 @@
 -- `drop_shared` meets its contract: one store, by the state read. Assumes nothing.
-use Rattle.homes.specs.EvictCode.{drop-read}
+use Rattle.homes.proofs.Laws.EvictCode.{drop-read}
 use borrow.Author.Needs.{needs}
 use Rattle.homes.proofs.evict.drop_shared.Statement.{statement}
 use Rattle.homes.proofs.evict.drop_shared.Tie as tie

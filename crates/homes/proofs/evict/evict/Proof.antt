@@ -1,10 +1,10 @@
 -- `evict` meets its contract: a plan for each way out. Assumes nothing.
 use mathlib.Core.Path.{refl}
 use native.Mathlib.Omega.{arith}
-use Rattle.table.specs.Answers.{meets-refused, meets-done}
-use Rattle.table.specs.Stores.{stored-as}
-use Rattle.homes.specs.EvictCode.{evict-admits, stays-turned, drops-leaves, goes-leaves, goes-home, evict-drops, evict-moves}
-use Rattle.homes.specs.Plans.{plan-failed, plan-turned, plan-admitted}
+use Rattle.table.proofs.Laws.Answers.{meets-refused, meets-done}
+use Rattle.table.proofs.Laws.Stores.{stored-as}
+use Rattle.homes.proofs.Laws.EvictCode.{evict-admits, stays-turned, drops-leaves, goes-leaves, goes-home, evict-drops, evict-moves}
+use Rattle.homes.proofs.Laws.Plans.{plan-failed, plan-turned, plan-admitted}
 use borrow.Author.Needs.{needs}
 use Rattle.homes.proofs.evict.evict.Statement.{statement}
 use Rattle.homes.proofs.evict.evict.Tie as tie

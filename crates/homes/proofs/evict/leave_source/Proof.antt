@@ -1,6 +1,6 @@
 -- `leave_source` meets its contract: one store, by the place. Assumes nothing.
-use Rattle.table.specs.Stores.{stored-as}
-use Rattle.homes.specs.EvictCode.{source-current, source-kept}
+use Rattle.table.proofs.Laws.Stores.{stored-as}
+use Rattle.homes.proofs.Laws.EvictCode.{source-current, source-kept}
 use borrow.Author.Needs.{needs}
 use Rattle.homes.proofs.evict.leave_source.Statement.{statement}
 use Rattle.homes.proofs.evict.leave_source.Tie as tie

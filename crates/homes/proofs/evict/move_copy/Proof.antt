@@ -1,5 +1,5 @@
 -- `move_copy` meets its contract: the home's stores, then the source's. Assumes nothing.
-use Rattle.homes.specs.EvictCode.{move-then}
+use Rattle.homes.proofs.Laws.EvictCode.{move-then}
 use borrow.Author.Needs.{needs}
 use Rattle.homes.proofs.evict.move_copy.Statement.{statement}
 use Rattle.homes.proofs.evict.move_copy.Tie as tie

@@ -1,5 +1,5 @@
 -- `way_admitted` meets its contract: 10, dropped, 11, or home. Assumes nothing.
-use Rattle.homes.specs.EvictCode.{way-invalid, way-drops, way-none, way-goes}
+use Rattle.homes.proofs.Laws.EvictCode.{way-invalid, way-drops, way-none, way-goes}
 use borrow.Author.Needs.{needs}
 use Rattle.homes.proofs.evict.way_admitted.Statement.{statement}
 use Rattle.homes.proofs.evict.way_admitted.Tie as tie

@@ -1,8 +1,8 @@
 -- `way_of` meets its contract: turned down, or the place decides. Assumes nothing.
 use mathlib.Core.Path.{sym, _∙_}
 use native.Mathlib.Omega.{arith}
-use Rattle.homes.specs.Admission.{admission-tells}
-use Rattle.homes.specs.EvictCode.{way-turned, way-admitted}
+use Rattle.homes.proofs.Laws.Admission.{admission-tells}
+use Rattle.homes.proofs.Laws.EvictCode.{way-turned, way-admitted}
 use borrow.Author.Needs.{needs}
 use Rattle.homes.proofs.evict.way_of.Statement.{statement}
 use Rattle.homes.proofs.evict.way_of.Tie as tie

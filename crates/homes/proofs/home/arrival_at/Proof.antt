@@ -1,5 +1,5 @@
 -- `arrival_at` meets its contract: each field as it was read. Assumes nothing.
-use Rattle.homes.specs.HomeCode.{arrival-read}
+use Rattle.homes.proofs.Laws.HomeCode.{arrival-read}
 use borrow.Author.Needs.{needs}
 use Rattle.homes.proofs.home.arrival_at.Statement.{statement}
 use Rattle.homes.proofs.home.arrival_at.Tie as tie

@@ -1,5 +1,5 @@
 -- `arrive` meets its contract: value, then state, by the place. Assumes nothing.
-use Rattle.homes.specs.HomeCode.{arrives-current, arrives-kept}
+use Rattle.homes.proofs.Laws.HomeCode.{arrives-current, arrives-kept}
 use borrow.Author.Needs.{needs}
 use Rattle.homes.proofs.home.arrive.Statement.{statement}
 use Rattle.homes.proofs.home.arrive.Tie as tie

@@ -1,5 +1,5 @@
 -- `can_take` meets its contract: dead, or live and its place decides. Assumes nothing.
-use Rattle.homes.specs.HomeCode.{fits-dead, fits-live}
+use Rattle.homes.proofs.Laws.HomeCode.{fits-dead, fits-live}
 use borrow.Author.Needs.{needs}
 use Rattle.homes.proofs.home.can_take.Statement.{statement}
 use Rattle.homes.proofs.home.can_take.Tie as tie

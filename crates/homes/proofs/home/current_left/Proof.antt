@@ -1,5 +1,5 @@
 -- `current_left` meets its contract: the copy dropped, or another. Assumes nothing.
-use Rattle.homes.specs.HomeCode.{left-dropped, left-stays}
+use Rattle.homes.proofs.Laws.HomeCode.{left-dropped, left-stays}
 use Rattle.homes.proofs.home.current_left.Statement.{statement}
 use Rattle.homes.proofs.home.current_left.Tie as tie
 

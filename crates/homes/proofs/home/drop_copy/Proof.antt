@@ -1,6 +1,6 @@
 -- `drop_copy` meets its contract: one store or none. Assumes nothing.
-use Rattle.table.specs.Stores.{stored-as, stored-none}
-use Rattle.homes.specs.HomeCode.{drop-made, drop-none}
+use Rattle.table.proofs.Laws.Stores.{stored-as, stored-none}
+use Rattle.homes.proofs.Laws.HomeCode.{drop-made, drop-none}
 use borrow.Author.Needs.{needs}
 use Rattle.homes.proofs.home.drop_copy.Statement.{statement}
 use Rattle.homes.proofs.home.drop_copy.Tie as tie

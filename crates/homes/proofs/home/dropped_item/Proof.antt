@@ -1,5 +1,5 @@
 -- `dropped_item` meets its contract: none, or the lowest Shared copy. Assumes nothing.
-use Rattle.homes.specs.HomeCode.{drops-none, drops-shared}
+use Rattle.homes.proofs.Laws.HomeCode.{drops-none, drops-shared}
 use borrow.Author.Needs.{needs}
 use Rattle.homes.proofs.home.dropped_item.Statement.{statement}
 use Rattle.homes.proofs.home.dropped_item.Tie as tie

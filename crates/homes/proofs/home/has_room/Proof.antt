@@ -1,5 +1,5 @@
 -- `has_room` meets its contract: a free frame, or a copy to drop. Assumes nothing.
-use Rattle.homes.specs.HomeCode.{room-framed, room-drops}
+use Rattle.homes.proofs.Laws.HomeCode.{room-framed, room-drops}
 use borrow.Author.Needs.{needs}
 use Rattle.homes.proofs.home.has_room.Statement.{statement}
 use Rattle.homes.proofs.home.has_room.Tie as tie

@@ -1,10 +1,11 @@
 -- `home_of` meets its contract: no node of the table; else the nodes passed over do not fit, and `h` is the next. Assumes nothing.
 use Prim.Native.Nat.{_≤_, _-_}
 use mathlib.Core.Path.{_≡_, _∙_}
-use Rattle.counting.specs.First.{first, first-starts}
+use Rattle.counting.specs.First.{first}
+use Rattle.counting.proofs.Laws.First.{first-starts}
 use Rattle.table.specs.View.{view}
 use Rattle.homes.specs.Home.{nodeAfter, fitsAfter}
-use Rattle.homes.specs.HomeCode.{after-starts, search-there, search-steps, home-outside, home-found, home-on, home-ends}
+use Rattle.homes.proofs.Laws.HomeCode.{after-starts, search-there, search-steps, home-outside, home-found, home-on, home-ends}
 use borrow.Author.Needs.{needs}
 use Rattle.homes.proofs.home.home_of.Statement.{statement}
 use Rattle.homes.proofs.home.home_of.Tie as tie

@@ -1,6 +1,6 @@
 -- `home_stores` meets its contract: taken over, or a drop and then the copy. Assumes nothing.
-use Rattle.table.specs.Stores.{stored-as}
-use Rattle.homes.specs.HomeCode.{home-takes-over, home-arrives}
+use Rattle.table.proofs.Laws.Stores.{stored-as}
+use Rattle.homes.proofs.Laws.HomeCode.{home-takes-over, home-arrives}
 use borrow.Author.Needs.{needs}
 use Rattle.homes.proofs.home.home_stores.Statement.{statement}
 use Rattle.homes.proofs.home.home_stores.Tie as tie

@@ -1,5 +1,5 @@
 -- `next_node` meets its contract: back to 0, or one on. Assumes nothing.
-use Rattle.homes.specs.HomeCode.{next-wraps, next-follows}
+use Rattle.homes.proofs.Laws.HomeCode.{next-wraps, next-follows}
 use borrow.Author.Needs.{needs}
 use Rattle.homes.proofs.home.next_node.Statement.{statement}
 use Rattle.homes.proofs.home.next_node.Tie as tie

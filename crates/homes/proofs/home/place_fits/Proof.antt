@@ -1,5 +1,5 @@
 -- `place_fits` meets its contract: taken over, Invalid with room, or neither. Assumes nothing.
-use Rattle.homes.specs.HomeCode.{place-over, place-free, place-taken}
+use Rattle.homes.proofs.Laws.HomeCode.{place-over, place-free, place-taken}
 use borrow.Author.Needs.{needs}
 use Rattle.homes.proofs.home.place_fits.Statement.{statement}
 use Rattle.homes.proofs.home.place_fits.Tie as tie

@@ -1,10 +1,11 @@
 -- `shared_item` meets its contract: no item below `item` is Shared there. Assumes nothing.
 use Prim.Native.Nat.{_≤_, _-_}
 use mathlib.Core.Path.{_≡_}
-use Rattle.counting.specs.First.{first, first-starts}
+use Rattle.counting.specs.First.{first}
+use Rattle.counting.proofs.Laws.First.{first-starts}
 use Rattle.table.specs.View.{view}
 use Rattle.homes.specs.Home.{sharedAt}
-use Rattle.homes.specs.HomeCode.{shared-here, shared-on, shared-none}
+use Rattle.homes.proofs.Laws.HomeCode.{shared-here, shared-on, shared-none}
 use borrow.Author.Needs.{needs}
 use Rattle.homes.proofs.home.shared_item.Statement.{statement}
 use Rattle.homes.proofs.home.shared_item.Tie as tie

@@ -1,5 +1,5 @@
 -- `code_of` meets its contract: by the place. Assumes nothing.
-use Rattle.homes.specs.Places.{code-current, code-kept}
+use Rattle.homes.proofs.Laws.Places.{code-current, code-kept}
 use borrow.Author.Needs.{needs}
 use Rattle.homes.proofs.places.code_of.Statement.{statement}
 use Rattle.homes.proofs.places.code_of.Tie as tie

@@ -1,5 +1,5 @@
 -- `place_by` meets its contract: both places. Assumes nothing.
-use Rattle.homes.specs.Places.{place-current, place-kept}
+use Rattle.homes.proofs.Laws.Places.{place-current, place-kept}
 use Rattle.homes.proofs.places.place_by.Statement.{statement}
 use Rattle.homes.proofs.places.place_by.Tie as tie
 

@@ -1,5 +1,5 @@
 -- `shared_in` meets its contract: by the place. Assumes nothing.
-use Rattle.homes.specs.Places.{shared-current, shared-kept}
+use Rattle.homes.proofs.Laws.Places.{shared-current, shared-kept}
 use borrow.Author.Needs.{needs}
 use Rattle.homes.proofs.places.shared_in.Statement.{statement}
 use Rattle.homes.proofs.places.shared_in.Tie as tie

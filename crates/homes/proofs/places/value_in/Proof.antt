@@ -1,5 +1,5 @@
 -- `value_in` meets its contract: by the place. Assumes nothing.
-use Rattle.homes.specs.Places.{value-current, value-kept}
+use Rattle.homes.proofs.Laws.Places.{value-current, value-kept}
 use borrow.Author.Needs.{needs}
 use Rattle.homes.proofs.places.value_in.Statement.{statement}
 use Rattle.homes.proofs.places.value_in.Tie as tie

@@ -1,6 +1,6 @@
 -- `check` meets its contract: a yes, or the refusal. Assumes nothing.
-use Rattle.table.specs.Answers.{told-refused, told-yes}
-use Rattle.layout.specs.Stretch.{check-failed, check-passed}
+use Rattle.table.proofs.Laws.Answers.{told-refused, told-yes}
+use Rattle.layout.proofs.Laws.Stretch.{check-failed, check-passed}
 use borrow.Author.Needs.{needs}
 use Rattle.layout.proofs.check.check.Statement.{statement}
 use Rattle.layout.proofs.check.check.Tie as tie

@@ -1,9 +1,9 @@
 -- `format` meets its contract: a plan for each way out. Assumes nothing.
 use mathlib.Core.Path.{sym, _∙_}
 use native.Mathlib.Omega.{arith}
-use Rattle.table.specs.Geometry.{made-sized}
-use Rattle.table.specs.Answers.{meets-refused, meets-done}
-use Rattle.layout.specs.Format.{format-refused, format-short, format-carried}
+use Rattle.table.proofs.Laws.Geometry.{made-sized}
+use Rattle.table.proofs.Laws.Answers.{meets-refused, meets-done}
+use Rattle.layout.proofs.Laws.Format.{format-refused, format-short, format-carried}
 use borrow.Author.Needs.{needs}
 use Rattle.layout.proofs.format.format.Statement.{statement}
 use Rattle.layout.proofs.format.format.Tie as tie

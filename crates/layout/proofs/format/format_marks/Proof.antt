@@ -1,6 +1,7 @@
 -- `format_marks` meets its contract: the loop has stored the marks before `node`. Assumes nothing.
 use Prim.Native.Nat.{_≤_, _-_}
-use Rattle.table.specs.Stores.{Stored, runs, loop-starts, loop-turns, loop-ends}
+use Rattle.table.specs.Stores.{Stored, runs}
+use Rattle.table.proofs.Laws.Stores.{loop-starts, loop-turns, loop-ends}
 use Rattle.layout.specs.Format.{firstMark}
 use borrow.Author.Needs.{needs}
 use Rattle.layout.proofs.format.format_marks.Statement.{statement}

@@ -1,5 +1,5 @@
 -- `format_node` meets its contract: the row is that of Format. Assumes nothing.
-use Rattle.layout.specs.FormatRow.{row-first}
+use Rattle.layout.proofs.Laws.FormatRow.{row-first}
 use borrow.Author.Needs.{needs}
 use Rattle.layout.proofs.format.format_node.Statement.{statement}
 use Rattle.layout.proofs.format.format_node.Tie as tie

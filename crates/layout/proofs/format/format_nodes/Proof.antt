@@ -1,8 +1,10 @@
 -- `format_nodes` meets its contract: the loop has stored the entries of the nodes before `node`. Assumes nothing.
 use Prim.Native.Nat.{_≤_, _-_}
 use mathlib.Core.List.{map}
-use Rattle.table.specs.Stores.{Stored, entryStore, runs, loop-starts, loop-turns, loop-ends}
-use Rattle.layout.specs.Format.{firstEntry, entries-nested}
+use Rattle.table.specs.Stores.{Stored, entryStore, runs}
+use Rattle.table.proofs.Laws.Stores.{loop-starts, loop-turns, loop-ends}
+use Rattle.layout.specs.Format.{firstEntry}
+use Rattle.layout.proofs.Laws.Format.{entries-nested}
 use borrow.Author.Needs.{needs}
 use Rattle.layout.proofs.format.format_nodes.Statement.{statement}
 use Rattle.layout.proofs.format.format_nodes.Tie as tie

@@ -1,5 +1,5 @@
 -- `format_words` meets its contract: word 0, marks, entries. Assumes nothing.
-use Rattle.layout.specs.Format.{format-then}
+use Rattle.layout.proofs.Laws.Format.{format-then}
 use borrow.Author.Needs.{needs}
 use Rattle.layout.proofs.format.format_words.Statement.{statement}
 use Rattle.layout.proofs.format.format_words.Tie as tie

@@ -1,6 +1,6 @@
 -- `span_of` meets its contract: a plan for each way out. Assumes nothing.
 use mathlib.Core.Path.{refl}
-use Rattle.layout.specs.Stretch.{stretch-failed, stretch-no-node, stretch-carried, stretch-within, span-refused, span-found}
+use Rattle.layout.proofs.Laws.Stretch.{stretch-failed, stretch-no-node, stretch-carried, stretch-within, span-refused, span-found}
 use borrow.Author.Needs.{needs}
 use Rattle.layout.proofs.stretch.span_of.Statement.{statement}
 use Rattle.layout.proofs.stretch.span_of.Tie as tie

@@ -1,6 +1,6 @@
 -- `stretch_answer` meets its contract: a yes, or the refusal. Assumes nothing.
-use Rattle.table.specs.Answers.{told-refused}
-use Rattle.layout.specs.Stretch.{answer-refused, answer-yes}
+use Rattle.table.proofs.Laws.Answers.{told-refused}
+use Rattle.layout.proofs.Laws.Stretch.{answer-refused, answer-yes}
 use borrow.Author.Needs.{needs}
 use Rattle.layout.proofs.stretch.stretch_answer.Statement.{statement}
 use Rattle.layout.proofs.stretch.stretch_answer.Tie as tie

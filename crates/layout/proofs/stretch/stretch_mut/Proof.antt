@@ -1,6 +1,6 @@
 -- `stretch_mut` meets its contract: the part, or an empty one. Assumes nothing.
 use native.Mathlib.Omega.{arith}
-use Rattle.layout.specs.Stretch.{stretch-found, stretch-empty}
+use Rattle.layout.proofs.Laws.Stretch.{stretch-found, stretch-empty}
 use borrow.Author.Needs.{needs}
 use Rattle.layout.proofs.stretch.stretch_mut.Statement.{statement}
 use Rattle.layout.proofs.stretch.stretch_mut.Tie as tie

@@ -1,6 +1,6 @@
 -- `linkspan_evict` meets its contract: the call that it wraps, or 18. Assumes nothing.
-use Rattle.linkspan.specs.Report.{reports-malformed, reports-planned}
-use Rattle.linkspan.specs.Arguments.{evict-malformed, evict-asked}
+use Rattle.linkspan.proofs.Laws.Report.{reports-malformed, reports-planned}
+use Rattle.linkspan.proofs.Laws.Arguments.{evict-malformed, evict-asked}
 use borrow.Author.Needs.{needs}
 use Rattle.linkspan.proofs.memory.linkspan_evict.Statement.{statement}
 use Rattle.linkspan.proofs.memory.linkspan_evict.Tie as tie

@@ -1,5 +1,5 @@
 -- `linkspan_read` meets its contract: the call that it wraps. Assumes nothing.
-use Rattle.linkspan.specs.Report.{reports-call}
+use Rattle.linkspan.proofs.Laws.Report.{reports-call}
 use borrow.Author.Needs.{needs}
 use Rattle.linkspan.proofs.memory.linkspan_read.Statement.{statement}
 use Rattle.linkspan.proofs.memory.linkspan_read.Tie as tie

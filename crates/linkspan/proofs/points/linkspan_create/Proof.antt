@@ -1,5 +1,5 @@
 -- `linkspan_create` meets its contract: the call that it wraps. Assumes nothing.
-use Rattle.linkspan.specs.Report.{reports-call}
+use Rattle.linkspan.proofs.Laws.Report.{reports-call}
 use borrow.Author.Needs.{needs}
 use Rattle.linkspan.proofs.points.linkspan_create.Statement.{statement}
 use Rattle.linkspan.proofs.points.linkspan_create.Tie as tie

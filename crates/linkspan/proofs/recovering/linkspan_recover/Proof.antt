@@ -1,6 +1,6 @@
 -- `linkspan_recover` meets its contract: the call that it wraps, or 18. Assumes nothing.
-use Rattle.linkspan.specs.Report.{recover-malformed, recover-planned}
-use Rattle.linkspan.specs.Arguments.{recover-unasked, recover-asked}
+use Rattle.linkspan.proofs.Laws.Report.{recover-malformed, recover-planned}
+use Rattle.linkspan.proofs.Laws.Arguments.{recover-unasked, recover-asked}
 use borrow.Author.Needs.{needs}
 use Rattle.linkspan.proofs.recovering.linkspan_recover.Statement.{statement}
 use Rattle.linkspan.proofs.recovering.linkspan_recover.Tie as tie

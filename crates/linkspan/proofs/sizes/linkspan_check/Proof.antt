@@ -1,5 +1,5 @@
 -- `linkspan_check` meets its contract: the number of the answer. Assumes nothing.
-use Rattle.linkspan.specs.Report.{told-number}
+use Rattle.linkspan.proofs.Laws.Report.{told-number}
 use borrow.Author.Needs.{needs}
 use Rattle.linkspan.proofs.sizes.linkspan_check.Statement.{statement}
 use Rattle.linkspan.proofs.sizes.linkspan_check.Tie as tie

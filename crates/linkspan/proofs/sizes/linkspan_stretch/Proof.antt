@@ -1,5 +1,5 @@
 -- `linkspan_stretch` meets its contract: where the entries lie, or the refusal. Assumes nothing.
-use Rattle.linkspan.specs.Part.{part-refused, part-found}
+use Rattle.linkspan.proofs.Laws.Part.{part-refused, part-found}
 use borrow.Author.Needs.{needs}
 use Rattle.linkspan.proofs.sizes.linkspan_stretch.Statement.{statement}
 use Rattle.linkspan.proofs.sizes.linkspan_stretch.Tie as tie

@@ -1,5 +1,5 @@
 -- `linkspan_words` meets its contract: the words of the geometry, or 0. Assumes nothing.
-use Rattle.linkspan.specs.Words.{words-none, words-some}
+use Rattle.linkspan.proofs.Laws.Words.{words-none, words-some}
 use borrow.Author.Needs.{needs}
 use Rattle.linkspan.proofs.sizes.linkspan_words.Statement.{statement}
 use Rattle.linkspan.proofs.sizes.linkspan_words.Tie as tie

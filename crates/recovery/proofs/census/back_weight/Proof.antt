@@ -1,9 +1,9 @@
 -- `back_weight` meets its contract: an arm for each value of the six top bits. Assumes nothing.
 use mathlib.Core.Path.{sym, ap}
 use mathlib.Core.Bool.{false}
-use Rattle.entries.specs.Survey.{codesForm}
-use Rattle.entries.specs.SurveyWeight.{none-left}
-use Rattle.recovery.specs.Census.{sideBits}
+use Rattle.entries.specs.code.Survey.{codesForm}
+use Rattle.entries.proofs.Laws.SurveyWeight.{none-left}
+use Rattle.recovery.specs.code.Census.{sideBits}
 use Rattle.recovery.proofs.census.back_weight.Statement.{statement}
 use Rattle.recovery.proofs.census.back_weight.Tie as tie
 

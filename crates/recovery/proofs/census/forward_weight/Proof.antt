@@ -2,9 +2,9 @@
 use mathlib.Core.Path.{sym, ap}
 use mathlib.Core.Bool.{true}
 use Rattle.table.specs.Changes.{changeOf}
-use Rattle.entries.specs.Survey.{codesForm}
-use Rattle.entries.specs.SurveyWeight.{none-left}
-use Rattle.recovery.specs.Census.{sideBits}
+use Rattle.entries.specs.code.Survey.{codesForm}
+use Rattle.entries.proofs.Laws.SurveyWeight.{none-left}
+use Rattle.recovery.specs.code.Census.{sideBits}
 use Rattle.recovery.proofs.census.forward_weight.Statement.{statement}
 use Rattle.recovery.proofs.census.forward_weight.Tie as tie
 

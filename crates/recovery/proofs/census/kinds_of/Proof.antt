@@ -4,8 +4,9 @@ use mathlib.Core.Path.{_≡_, refl}
 use mathlib.Core.Bool.{not}
 use lib.Dec.{eqb}
 use lib.ListN.{getD}
-use Rattle.counting.specs.Counting.{every, every-none, every-next, every-ends}
-use Rattle.recovery.specs.Tallies.{plain}
+use Rattle.counting.specs.Counting.{every}
+use Rattle.counting.proofs.Laws.Counting.{every-none, every-next, every-ends}
+use Rattle.recovery.specs.code.Tallies.{plain}
 use borrow.Author.Needs.{needs}
 use Rattle.recovery.proofs.census.kinds_of.Statement.{statement}
 use Rattle.recovery.proofs.census.kinds_of.Tie as tie

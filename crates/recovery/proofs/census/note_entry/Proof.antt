@@ -1,7 +1,7 @@
 -- `note_entry` meets its contract. Assumes nothing.
 use mathlib.Core.Path.{refl}
 use native.Mathlib.Omega.{arith}
-use Rattle.recovery.specs.CensusEntry.{adds-small, entry-noted}
+use Rattle.recovery.proofs.Laws.CensusEntry.{adds-small, entry-noted}
 use borrow.Author.Needs.{needs}
 use Rattle.recovery.proofs.census.note_entry.Statement.{statement}
 use Rattle.recovery.proofs.census.note_entry.Tie as tie

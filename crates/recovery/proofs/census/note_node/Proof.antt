@@ -1,6 +1,6 @@
 -- `note_node` meets its contract: no survivor, or one whose row is noted. Assumes nothing.
 use Rattle.table.specs.View.{view}
-use Rattle.recovery.specs.CensusLaws.{row-ready, node-noted-dead, node-noted-live}
+use Rattle.recovery.proofs.Laws.CensusLaws.{row-ready, node-noted-dead, node-noted-live}
 use borrow.Author.Needs.{needs}
 use Rattle.recovery.proofs.census.note_node.Statement.{statement}
 use Rattle.recovery.proofs.census.note_node.Tie as tie

@@ -3,12 +3,14 @@ use Prim.Native.Nat.{_≤_, _-_}
 use mathlib.Core.Path.{_≡_, refl, _∙_}
 use native.Mathlib.Omega.{arith}
 use lib.ListN.{length}
-use Rattle.counting.specs.Counting.{every, every-none, every-next}
+use Rattle.counting.specs.Counting.{every}
+use Rattle.counting.proofs.Laws.Counting.{every-none, every-next}
 use Rattle.table.specs.View.{view}
 use Rattle.survivors.specs.Survivors.{survivors}
-use Rattle.recovery.specs.Notes.{equalTo, equal-none}
-use Rattle.recovery.specs.Census.{CensusTo}
-use Rattle.recovery.specs.CensusLaws.{nodeFormed, census-start, nodes-noted}
+use Rattle.recovery.specs.code.Notes.{equalTo}
+use Rattle.recovery.proofs.Laws.Notes.{equal-none}
+use Rattle.recovery.specs.code.Census.{CensusTo}
+use Rattle.recovery.proofs.Laws.CensusLaws.{nodeFormed, census-start, nodes-noted}
 use borrow.Author.Needs.{needs}
 use Rattle.recovery.proofs.census.note_nodes.Statement.{statement}
 use Rattle.recovery.proofs.census.note_nodes.Tie as tie

@@ -3,8 +3,8 @@ use Prim.Native.Nat.{_≤_, _-_}
 use native.Mathlib.Omega.{arith}
 use Rattle.table.specs.declared.geometry.Geometry.{Geometry}
 use Rattle.table.specs.View.{view}
-use Rattle.recovery.specs.Rows.{reached}
-use Rattle.recovery.specs.CensusLaws.{RowListed, RowPassed, row-lists, passed-start, entry-small, passed-small, passed-asks, passed-turn, passed-all}
+use Rattle.recovery.specs.code.Rows.{reached}
+use Rattle.recovery.proofs.Laws.CensusLaws.{RowListed, RowPassed, row-lists, passed-start, entry-small, passed-small, passed-asks, passed-turn, passed-all}
 use borrow.Author.Needs.{needs}
 use Rattle.recovery.proofs.census.note_row.Statement.{statement}
 use Rattle.recovery.proofs.census.note_row.Tie as tie

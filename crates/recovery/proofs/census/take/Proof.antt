@@ -1,7 +1,7 @@
 -- `take` meets its contract: what the nodes and the tallies tell. Assumes nothing.
 use Rattle.table.specs.View.{view}
 use Rattle.survivors.specs.Survivors.{survivors}
-use Rattle.recovery.specs.CensusLaws.{taken}
+use Rattle.recovery.proofs.Laws.CensusLaws.{taken}
 use borrow.Author.Needs.{needs}
 use Rattle.recovery.proofs.census.take.Statement.{statement}
 use Rattle.recovery.proofs.census.take.Tie as tie

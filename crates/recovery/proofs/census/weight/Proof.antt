@@ -1,7 +1,7 @@
 -- `weight` meets its contract: that of the side. Assumes nothing.
 use mathlib.Core.Path.{sym, ap, _∙_}
-use Rattle.entries.specs.Row.{topOf}
-use Rattle.recovery.specs.Census.{sideBits}
+use Rattle.entries.specs.code.Row.{topOf}
+use Rattle.recovery.specs.code.Census.{sideBits}
 use borrow.Author.Needs.{needs}
 use Rattle.recovery.proofs.census.weight.Statement.{statement}
 use Rattle.recovery.proofs.census.weight.Tie as tie

@@ -1,6 +1,6 @@
 -- `store_lost` meets its contract: nobody is lost, or a node of the table. Assumes nothing.
 use native.Mathlib.Omega.{arith}
-use Rattle.survivors.specs.ClosingMarksCode.{lost-within, lost-nobody, lost-node}
+use Rattle.survivors.proofs.Laws.ClosingMarksCode.{lost-within, lost-nobody, lost-node}
 use borrow.Author.Needs.{needs}
 use Rattle.recovery.proofs.marks.store_lost.Statement.{statement}
 use Rattle.recovery.proofs.marks.store_lost.Tie as tie

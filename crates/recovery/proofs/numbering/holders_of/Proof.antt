@@ -3,7 +3,8 @@ use Prim.Native.Nat.{_≤_, _-_}
 use native.Mathlib.Omega.{arith}
 use Rattle.table.specs.View.{view}
 use Rattle.survivors.specs.Survivors.{survivors}
-use Rattle.recovery.specs.NumberingCode.{HoldersTo, holders-start, holders-turn, holders-end}
+use Rattle.recovery.specs.code.NumberingCode.{HoldersTo}
+use Rattle.recovery.proofs.Laws.NumberingCode.{holders-start, holders-turn, holders-end}
 use borrow.Author.Needs.{needs}
 use Rattle.recovery.proofs.numbering.holders_of.Statement.{statement}
 use Rattle.recovery.proofs.numbering.holders_of.Tie as tie

@@ -4,7 +4,7 @@ use mathlib.Core.Path.{refl}
 use Rattle.table.specs.Stores.{Stored}
 use Rattle.table.specs.View.{view}
 use Rattle.survivors.specs.Survivors.{survivors}
-use Rattle.recovery.specs.NumberingCode.{numbersBefore, numbers-start, numbers-ready, numbers-turn, numbers-end}
+use Rattle.recovery.proofs.Laws.NumberingCode.{numbersBefore, numbers-start, numbers-ready, numbers-turn, numbers-end}
 use borrow.Author.Needs.{needs}
 use Rattle.recovery.proofs.numbering.number.Statement.{statement}
 use Rattle.recovery.proofs.numbering.number.Tie as tie

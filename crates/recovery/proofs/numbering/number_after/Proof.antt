@@ -1,5 +1,5 @@
 -- `number_after` meets its contract: the lowest holder, the second lowest, a further one. Assumes nothing.
-use Rattle.recovery.specs.NumberingCode.{after-lowest, after-second, after-further}
+use Rattle.recovery.proofs.Laws.NumberingCode.{after-lowest, after-second, after-further}
 use borrow.Author.Needs.{needs}
 use Rattle.recovery.proofs.numbering.number_after.Statement.{statement}
 use Rattle.recovery.proofs.numbering.number_after.Tie as tie

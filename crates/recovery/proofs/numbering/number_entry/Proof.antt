@@ -2,8 +2,9 @@
 use native.Mathlib.Omega.{arith}
 use mathlib.Core.List.{map}
 use mathlib.Core.Path.{ap}
-use Rattle.table.specs.Stores.{entryStore, stored-as, stored-none}
-use Rattle.recovery.specs.NumberingCode.{number-fits, by-none, by-copy}
+use Rattle.table.specs.Stores.{entryStore}
+use Rattle.table.proofs.Laws.Stores.{stored-as, stored-none}
+use Rattle.recovery.proofs.Laws.NumberingCode.{number-fits, by-none, by-copy}
 use borrow.Author.Needs.{needs}
 use Rattle.recovery.proofs.numbering.number_entry.Statement.{statement}
 use Rattle.recovery.proofs.numbering.number_entry.Tie as tie

@@ -1,12 +1,14 @@
 -- `number_item` meets its contract: a turn finds its entry as it was at the start, and has counted the lower holders. Assumes nothing.
 use Prim.Native.Nat.{_≤_, _<_, _-_}
 use native.Mathlib.Omega.{arith}
-use Rattle.table.specs.Stores.{Stored, loop-starts, loop-ends}
+use Rattle.table.specs.Stores.{Stored}
+use Rattle.table.proofs.Laws.Stores.{loop-starts, loop-ends}
 use Rattle.table.specs.View.{view}
 use Rattle.table.specs.Pass.{pass}
 use Rattle.survivors.specs.Survivors.{survivors}
 use Rattle.recovery.specs.Numbering.{numberChange}
-use Rattle.recovery.specs.NumberingCode.{HoldersTo, holders-start, holders-turn, code-found, number-turn}
+use Rattle.recovery.specs.code.NumberingCode.{HoldersTo}
+use Rattle.recovery.proofs.Laws.NumberingCode.{holders-start, holders-turn, code-found, number-turn}
 use borrow.Author.Needs.{needs}
 use Rattle.recovery.proofs.numbering.number_item.Statement.{statement}
 use Rattle.recovery.proofs.numbering.number_item.Tie as tie

@@ -1,5 +1,5 @@
 -- `number_turn` meets its contract: nothing to do, or the item's turn. Assumes nothing.
-use Rattle.recovery.specs.NumberingCode.{number-nothing}
+use Rattle.recovery.proofs.Laws.NumberingCode.{number-nothing}
 use borrow.Author.Needs.{needs}
 use Rattle.recovery.proofs.numbering.number_turn.Statement.{statement}
 use Rattle.recovery.proofs.numbering.number_turn.Tie as tie

@@ -1,5 +1,5 @@
 -- `one_of` meets its contract: the code, or another. Assumes nothing.
-use Rattle.recovery.specs.NumberingCode.{counted-yes, counted-no}
+use Rattle.recovery.proofs.Laws.NumberingCode.{counted-yes, counted-no}
 use Rattle.recovery.proofs.numbering.one_of.Statement.{statement}
 use Rattle.recovery.proofs.numbering.one_of.Tie as tie
 

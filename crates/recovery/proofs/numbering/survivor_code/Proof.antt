@@ -1,5 +1,5 @@
 -- `survivor_code` meets its contract: a node that is no survivor, or one. Assumes nothing.
-use Rattle.recovery.specs.NumberingCode.{code-dead, code-live}
+use Rattle.recovery.proofs.Laws.NumberingCode.{code-dead, code-live}
 use borrow.Author.Needs.{needs}
 use Rattle.recovery.proofs.numbering.survivor_code.Statement.{statement}
 use Rattle.recovery.proofs.numbering.survivor_code.Tie as tie

@@ -1,5 +1,5 @@
 -- `can_take` meets its contract: no survivor, or its place and its frames decide. Assumes nothing.
-use Rattle.recovery.specs.PartnersCode.{takes-dead, takes-live}
+use Rattle.recovery.proofs.Laws.PartnersCode.{takes-dead, takes-live}
 use Rattle.table.specs.View.{view}
 use borrow.Author.Needs.{needs}
 use Rattle.recovery.proofs.partners.can_take.Statement.{statement}

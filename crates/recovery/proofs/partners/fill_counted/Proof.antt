@@ -1,7 +1,8 @@
 -- `fill_counted` meets its contract: the loop has filled the words before `node`. Assumes nothing.
 use Prim.Native.Nat.{_≤_, _-_}
 use mathlib.Core.Path.{refl}
-use Rattle.recovery.specs.PartnersCode.{FilledFrom, from-start, from-turn, from-end}
+use Rattle.recovery.specs.code.PartnersCode.{FilledFrom}
+use Rattle.recovery.proofs.Laws.PartnersCode.{from-start, from-turn, from-end}
 use borrow.Author.Needs.{needs}
 use Rattle.recovery.proofs.partners.fill_counted.Statement.{statement}
 use Rattle.recovery.proofs.partners.fill_counted.Tie as tie

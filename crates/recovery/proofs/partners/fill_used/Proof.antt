@@ -2,7 +2,8 @@
 use Prim.Native.Nat.{_≤_, _-_}
 use Rattle.table.specs.View.{view}
 use Rattle.survivors.specs.Survivors.{survivors}
-use Rattle.recovery.specs.PartnersCode.{Filled, filled-start, filled-turn, filled-end}
+use Rattle.recovery.specs.code.PartnersCode.{Filled}
+use Rattle.recovery.proofs.Laws.PartnersCode.{filled-start, filled-turn, filled-end}
 use borrow.Author.Needs.{needs}
 use Rattle.recovery.proofs.partners.fill_used.Statement.{statement}
 use Rattle.recovery.proofs.partners.fill_used.Tie as tie

@@ -1,5 +1,5 @@
 -- `node_after` meets its contract: straight on, or round. Assumes nothing.
-use Rattle.recovery.specs.PartnersCode.{node-straight, node-round}
+use Rattle.recovery.proofs.Laws.PartnersCode.{node-straight, node-round}
 use mathlib.Core.Path.{refl}
 use borrow.Author.Needs.{needs}
 use Rattle.recovery.proofs.partners.node_after.Statement.{statement}

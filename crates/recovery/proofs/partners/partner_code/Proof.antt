@@ -1,6 +1,6 @@
 -- `partner_code` meets its contract: the number is 0, 1 or 2. Assumes nothing.
 use native.Mathlib.Omega.{arith}
-use Rattle.recovery.specs.NumberingCode.{number-fits}
+use Rattle.recovery.proofs.Laws.NumberingCode.{number-fits}
 use mathlib.Core.Path.{ap, _∙_}
 use Prim.Native.Nat.{_+_, _-_}
 use Rattle.table.specs.Changes.{checkpointOf}

@@ -1,7 +1,7 @@
 -- `partner_from` meets its contract: no partner, or its stores and its frames. Assumes nothing.
 use Rattle.table.specs.View.{view}
 use Rattle.survivors.specs.Survivors.{survivors}
-use Rattle.recovery.specs.PartnersCode.{found-there, found-room, from-none, from-made}
+use Rattle.recovery.proofs.Laws.PartnersCode.{found-there, found-room, from-none, from-made}
 use native.Mathlib.Omega.{arith}
 use borrow.Author.Needs.{needs}
 use Rattle.recovery.proofs.partners.partner_from.Statement.{statement}

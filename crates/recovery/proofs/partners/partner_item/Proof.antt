@@ -1,5 +1,5 @@
 -- `partner_item` meets its contract: the holder's copy gets its partner. Assumes nothing.
-use Rattle.recovery.specs.PartnersCode.{item-single, item-none}
+use Rattle.recovery.proofs.Laws.PartnersCode.{item-single, item-none}
 use borrow.Author.Needs.{needs}
 use Rattle.recovery.proofs.partners.partner_item.Statement.{statement}
 use Rattle.recovery.proofs.partners.partner_item.Tie as tie

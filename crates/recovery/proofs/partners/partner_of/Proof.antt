@@ -2,10 +2,12 @@
 use Prim.Native.Nat.{_≤_, _-_}
 use mathlib.Core.Path.{_≡_}
 use native.Mathlib.Omega.{arith}
-use Rattle.counting.specs.First.{first, first-starts}
+use Rattle.counting.specs.First.{first}
+use Rattle.counting.proofs.Laws.First.{first-starts}
 use Rattle.table.specs.View.{view}
 use Rattle.survivors.specs.Survivors.{survivors}
-use Rattle.recovery.specs.PartnersCode.{takesByAfter, partner-found, partner-on, partner-none, found, after-entry}
+use Rattle.recovery.specs.code.PartnersCode.{takesByAfter}
+use Rattle.recovery.proofs.Laws.PartnersCode.{partner-found, partner-on, partner-none, found, after-entry}
 use borrow.Author.Needs.{needs}
 use Rattle.recovery.proofs.partners.partner_of.Statement.{statement}
 use Rattle.recovery.proofs.partners.partner_of.Tie as tie

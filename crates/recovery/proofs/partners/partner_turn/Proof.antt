@@ -1,5 +1,5 @@
 -- `partner_turn` meets its contract: no single copy, or the item's turn. Assumes nothing.
-use Rattle.recovery.specs.PartnersSkip.{turn-skipped, turn-single}
+use Rattle.recovery.proofs.Laws.PartnersSkip.{turn-skipped, turn-single}
 use borrow.Author.Needs.{needs}
 use Rattle.recovery.proofs.partners.partner_turn.Statement.{statement}
 use Rattle.recovery.proofs.partners.partner_turn.Tie as tie

@@ -1,5 +1,5 @@
 -- `store_partner` meets its contract: value, then state. Assumes nothing.
-use Rattle.recovery.specs.PartnersCode.{partner-made}
+use Rattle.recovery.proofs.Laws.PartnersCode.{partner-made}
 use borrow.Author.Needs.{needs}
 use Rattle.recovery.proofs.partners.store_partner.Statement.{statement}
 use Rattle.recovery.proofs.partners.store_partner.Tie as tie

@@ -1,6 +1,6 @@
 -- `used_by` meets its contract: no survivor, or the frames of its row. Assumes nothing.
 use Rattle.table.specs.View.{view}
-use Rattle.recovery.specs.PartnersCode.{used-dead, used-live}
+use Rattle.recovery.proofs.Laws.PartnersCode.{used-dead, used-live}
 use borrow.Author.Needs.{needs}
 use Rattle.recovery.proofs.partners.used_by.Statement.{statement}
 use Rattle.recovery.proofs.partners.used_by.Tie as tie

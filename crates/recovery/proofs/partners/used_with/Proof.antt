@@ -1,5 +1,5 @@
 -- `used_with` meets its contract: the kept place is Invalid, or gives way. Assumes nothing.
-use Rattle.recovery.specs.PartnersCode.{with-free, with-kept}
+use Rattle.recovery.proofs.Laws.PartnersCode.{with-free, with-kept}
 use borrow.Author.Needs.{needs}
 use Rattle.recovery.proofs.partners.used_with.Statement.{statement}
 use Rattle.recovery.proofs.partners.used_with.Tie as tie

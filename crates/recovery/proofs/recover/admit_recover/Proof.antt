@@ -1,7 +1,7 @@
 -- `admit_recover` meets its contract: each refusal in its order, or admitted. Assumes nothing.
 use Rattle.table.specs.View.{view}
 use Rattle.survivors.specs.Survivors.{survivors}
-use Rattle.recovery.specs.RecoverCode.{admit-outside, admit-scratch, admit-unformed, admit-few, admit-unfit, admit-all}
+use Rattle.recovery.proofs.Laws.RecoverCode.{admit-outside, admit-scratch, admit-unformed, admit-few, admit-unfit, admit-all}
 use borrow.Author.Needs.{needs}
 use Rattle.recovery.proofs.recover.admit_recover.Statement.{statement}
 use Rattle.recovery.proofs.recover.admit_recover.Tie as tie

@@ -1,5 +1,5 @@
 -- `pair` meets its contract: nothing to number, or numbering and then the frames counted anew. Assumes nothing.
-use Rattle.recovery.specs.PairsCode.{plain-settles, plain-ready, plain-pairs, surplus-settles, surplus-ready, surplus-pairs}
+use Rattle.recovery.proofs.Laws.PairsCode.{plain-settles, plain-ready, plain-pairs, surplus-settles, surplus-ready, surplus-pairs}
 use borrow.Author.Needs.{needs}
 use Rattle.recovery.proofs.recover.pair.Statement.{statement}
 use Rattle.recovery.proofs.recover.pair.Tie as tie

@@ -1,5 +1,5 @@
 -- `recover` meets its contract: the sizes, or the recovery of a table of that size. Assumes nothing.
-use Rattle.recovery.specs.RecoverCode.{recover-failed, recover-sized, recover-passed, recover-refused}
+use Rattle.recovery.proofs.Laws.RecoverCode.{recover-failed, recover-sized, recover-passed, recover-refused}
 use borrow.Author.Needs.{needs}
 use Rattle.recovery.proofs.recover.recover.Statement.{statement}
 use Rattle.recovery.proofs.recover.recover.Tie as tie

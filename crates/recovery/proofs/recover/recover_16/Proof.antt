@@ -1,5 +1,5 @@
 -- `recover_16` meets its contract: room for 16 items, zero. Assumes nothing.
-use Rattle.recovery.specs.RecoverCode.{roomy-zeros}
+use Rattle.recovery.proofs.Laws.RecoverCode.{roomy-zeros}
 use borrow.Author.Needs.{needs}
 use Rattle.recovery.proofs.recover.recover_16.Statement.{statement}
 use Rattle.recovery.proofs.recover.recover_16.Tie as tie

@@ -1,5 +1,5 @@
 -- `recover_256` meets its contract: room for 256 items, zero. Assumes nothing.
-use Rattle.recovery.specs.RecoverCode.{roomy-zeros}
+use Rattle.recovery.proofs.Laws.RecoverCode.{roomy-zeros}
 use borrow.Author.Needs.{needs}
 use Rattle.recovery.proofs.recover.recover_256.Statement.{statement}
 use Rattle.recovery.proofs.recover.recover_256.Tie as tie

@@ -1,5 +1,5 @@
 -- `recover_64` meets its contract: room for 64 items, zero. Assumes nothing.
-use Rattle.recovery.specs.RecoverCode.{roomy-zeros}
+use Rattle.recovery.proofs.Laws.RecoverCode.{roomy-zeros}
 use borrow.Author.Needs.{needs}
 use Rattle.recovery.proofs.recover.recover_64.Statement.{statement}
 use Rattle.recovery.proofs.recover.recover_64.Tie as tie

@@ -3,8 +3,8 @@ use mathlib.Core.Path.{refl}
 use native.Mathlib.Omega.{arith}
 use Rattle.table.specs.View.{view}
 use Rattle.survivors.specs.Survivors.{survivors}
-use Rattle.recovery.specs.SidesCode.{fits-chosen}
-use Rattle.recovery.specs.RecoverCode.{roomy-takable, recover-turned, recover-admitted, recover-ready, recover-refused, recover-done}
+use Rattle.recovery.proofs.Laws.SidesCode.{fits-chosen}
+use Rattle.recovery.proofs.Laws.RecoverCode.{roomy-takable, recover-turned, recover-admitted, recover-ready, recover-refused, recover-done}
 use borrow.Author.Needs.{needs}
 use Rattle.recovery.proofs.recover.recover_in.Statement.{statement}
 use Rattle.recovery.proofs.recover.recover_in.Tie as tie

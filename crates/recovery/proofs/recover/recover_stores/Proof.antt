@@ -1,5 +1,5 @@
 -- `recover_stores` meets its contract: the lost mark, the stages, the scratch. Assumes nothing.
-use Rattle.recovery.specs.RecoverCode.{restore-ready, recovered}
+use Rattle.recovery.proofs.Laws.RecoverCode.{restore-ready, recovered}
 use borrow.Author.Needs.{needs}
 use Rattle.recovery.proofs.recover.recover_stores.Statement.{statement}
 use Rattle.recovery.proofs.recover.recover_stores.Tie as tie

@@ -1,5 +1,5 @@
 -- `restore` meets its contract: the stages, each on the table that it finds. Assumes nothing.
-use Rattle.recovery.specs.RecoverCode.{restore-pairable, restored}
+use Rattle.recovery.proofs.Laws.RecoverCode.{restore-pairable, restored}
 use borrow.Author.Needs.{needs}
 use Rattle.recovery.proofs.recover.restore.Statement.{statement}
 use Rattle.recovery.proofs.recover.restore.Tie as tie

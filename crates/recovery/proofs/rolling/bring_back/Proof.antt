@@ -1,5 +1,5 @@
 -- `bring_back` meets its contract: state, value and state, as `bringBack` lists them. Assumes nothing.
-use Rattle.recovery.specs.RollingCode.{back-all}
+use Rattle.recovery.proofs.Laws.RollingCode.{back-all}
 use borrow.Author.Needs.{needs}
 use Rattle.recovery.proofs.rolling.bring_back.Statement.{statement}
 use Rattle.recovery.proofs.rolling.bring_back.Tie as tie

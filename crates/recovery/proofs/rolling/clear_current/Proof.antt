@@ -1,8 +1,9 @@
 -- `clear_current` meets its contract: nothing, or one state store. Assumes nothing.
 use mathlib.Core.List.{map}
 use mathlib.Core.Path.{ap}
-use Rattle.table.specs.Stores.{entryStore, stored-as, stored-none}
-use Rattle.recovery.specs.RollingCode.{clear-stays, clear-stores}
+use Rattle.table.specs.Stores.{entryStore}
+use Rattle.table.proofs.Laws.Stores.{stored-as, stored-none}
+use Rattle.recovery.proofs.Laws.RollingCode.{clear-stays, clear-stores}
 use borrow.Author.Needs.{needs}
 use Rattle.recovery.proofs.rolling.clear_current.Statement.{statement}
 use Rattle.recovery.proofs.rolling.clear_current.Tie as tie

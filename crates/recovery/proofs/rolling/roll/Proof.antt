@@ -4,10 +4,11 @@ use mathlib.Core.Path.{_≡_, _∙_}
 use lib.ListN.{length}
 use Rattle.table.specs.Stores.{Stored}
 use Rattle.table.specs.View.{view}
-use Rattle.checkpoints.specs.Checkpoint.{entriesBefore, entries-start}
+use Rattle.checkpoints.specs.Checkpoint.{entriesBefore}
+use Rattle.checkpoints.proofs.Laws.Checkpoint.{entries-start}
 use Rattle.survivors.specs.Survivors.{survivors}
 use Rattle.recovery.specs.Rolling.{rollChange}
-use Rattle.recovery.specs.RollingCode.{survivor-node, rolled-all}
+use Rattle.recovery.proofs.Laws.RollingCode.{survivor-node, rolled-all}
 use borrow.Author.Needs.{needs}
 use Rattle.recovery.proofs.rolling.roll.Statement.{statement}
 use Rattle.recovery.proofs.rolling.roll.Tie as tie

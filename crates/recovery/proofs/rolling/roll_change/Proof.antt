@@ -1,8 +1,9 @@
 -- `roll_change` meets its contract: an Inv-CK that comes back, or one state store. Assumes nothing.
 use mathlib.Core.List.{map}
 use mathlib.Core.Path.{ap}
-use Rattle.table.specs.Stores.{entryStore, stored-as}
-use Rattle.recovery.specs.RollingCode.{roll-back, roll-settles}
+use Rattle.table.specs.Stores.{entryStore}
+use Rattle.table.proofs.Laws.Stores.{stored-as}
+use Rattle.recovery.proofs.Laws.RollingCode.{roll-back, roll-settles}
 use borrow.Author.Needs.{needs}
 use Rattle.recovery.proofs.rolling.roll_change.Statement.{statement}
 use Rattle.recovery.proofs.rolling.roll_change.Tie as tie

@@ -2,8 +2,8 @@
 use Prim.Native.Nat.{_≤_, _-_}
 use Rattle.table.specs.Stores.{Stored}
 use Rattle.table.specs.View.{view}
-use Rattle.recovery.specs.Rows.{reached}
-use Rattle.recovery.specs.RollingCode.{rolledTo, listed-first, listed-room, listed-state, listed-next, listed-all}
+use Rattle.recovery.specs.code.Rows.{reached}
+use Rattle.recovery.proofs.Laws.RollingCode.{rolledTo, listed-first, listed-room, listed-state, listed-next, listed-all}
 use borrow.Author.Needs.{needs}
 use Rattle.recovery.proofs.rolling.roll_listed.Statement.{statement}
 use Rattle.recovery.proofs.rolling.roll_listed.Tie as tie

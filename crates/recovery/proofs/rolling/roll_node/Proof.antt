@@ -1,5 +1,5 @@
 -- `roll_node` meets its contract: no survivor, or one whose occupied entries are listed. Assumes nothing.
-use Rattle.recovery.specs.RollingCode.{node-passed-over, node-rolled}
+use Rattle.recovery.proofs.Laws.RollingCode.{node-passed-over, node-rolled}
 use borrow.Author.Needs.{needs}
 use Rattle.recovery.proofs.rolling.roll_node.Statement.{statement}
 use Rattle.recovery.proofs.rolling.roll_node.Tie as tie

@@ -1,5 +1,5 @@
 -- `rolled` meets its contract: a digit for each code. Assumes nothing.
-use Rattle.recovery.specs.RollingCode.{rolled-on, rolled-back}
+use Rattle.recovery.proofs.Laws.RollingCode.{rolled-on, rolled-back}
 use borrow.Author.Needs.{needs}
 use Rattle.recovery.proofs.rolling.rolled.Statement.{statement}
 use Rattle.recovery.proofs.rolling.rolled.Tie as tie

@@ -1,8 +1,9 @@
 -- `settle` meets its contract: nothing, or one state store. Assumes nothing.
 use mathlib.Core.List.{map}
 use mathlib.Core.Path.{ap}
-use Rattle.table.specs.Stores.{entryStore, stored-as, stored-none}
-use Rattle.recovery.specs.RollingCode.{settle-stays, settle-stores}
+use Rattle.table.specs.Stores.{entryStore}
+use Rattle.table.proofs.Laws.Stores.{stored-as, stored-none}
+use Rattle.recovery.proofs.Laws.RollingCode.{settle-stays, settle-stores}
 use borrow.Author.Needs.{needs}
 use Rattle.recovery.proofs.rolling.settle.Statement.{statement}
 use Rattle.recovery.proofs.rolling.settle.Tie as tie

@@ -1,7 +1,7 @@
 -- `gather_four` meets its contract: one entry, and one more three times. Assumes nothing.
 use native.Mathlib.Omega.{arith}
 use borrow.Author.Needs.{needs}
-use Rattle.recovery.specs.Rows.{listed-then}
+use Rattle.recovery.proofs.Laws.Rows.{listed-then}
 use Rattle.recovery.proofs.rows.gather_four.Statement.{statement}
 use Rattle.recovery.proofs.rows.gather_four.Tie as tie
 

@@ -3,8 +3,9 @@ use Prim.Native.Nat.{ℕ, _+_, _-_, _*_, _/_, _≤_}
 use mathlib.Core.Path.{_≡_}
 use native.Mathlib.Omega.{arith}
 use borrow.Author.Needs.{needs}
-use Rattle.entries.specs.Row.{rowState}
-use Rattle.recovery.specs.Rows.{Listing, listing-at, listing-none}
+use Rattle.entries.specs.code.Row.{rowState}
+use Rattle.recovery.specs.code.Rows.{Listing}
+use Rattle.recovery.proofs.Laws.Rows.{listing-at, listing-none}
 use Rattle.recovery.proofs.rows.gather_fours.Statement.{statement}
 use Rattle.recovery.proofs.rows.gather_fours.Tie as tie
 

@@ -4,8 +4,8 @@ use mathlib.Core.Bool.{not}
 use lib.Dec.{eqb}
 use lib.ListN.{getD}
 use borrow.Author.Needs.{needs}
-use Rattle.counting.specs.Counting.{bit-counted}
-use Rattle.recovery.specs.Rows.{listed-one}
+use Rattle.counting.proofs.Laws.Counting.{bit-counted}
+use Rattle.recovery.proofs.Laws.Rows.{listed-one}
 use Rattle.recovery.proofs.rows.gather_one.Statement.{statement}
 use Rattle.recovery.proofs.rows.gather_one.Tie as tie
 

@@ -1,6 +1,6 @@
 -- `occupied` meets its contract: the row is the node's. Assumes nothing.
 use borrow.Author.Needs.{needs}
-use Rattle.recovery.specs.Rows.{row-room, row-listed}
+use Rattle.recovery.proofs.Laws.Rows.{row-room, row-listed}
 use Rattle.recovery.proofs.rows.occupied.Statement.{statement}
 use Rattle.recovery.proofs.rows.occupied.Tie as tie
 

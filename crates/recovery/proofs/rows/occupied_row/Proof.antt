@@ -3,8 +3,9 @@ use Prim.Native.Nat.{_+_, _-_, _*_, _≤_}
 use mathlib.Core.Path.{_≡_, sym}
 use native.Mathlib.Omega.{arith}
 use borrow.Author.Needs.{needs}
-use Rattle.entries.specs.Row.{rowState}
-use Rattle.recovery.specs.Rows.{Listing, listing-for, listing-ends}
+use Rattle.entries.specs.code.Row.{rowState}
+use Rattle.recovery.specs.code.Rows.{Listing}
+use Rattle.recovery.proofs.Laws.Rows.{listing-for, listing-ends}
 use Rattle.recovery.proofs.rows.occupied_row.Statement.{statement}
 use Rattle.recovery.proofs.rows.occupied_row.Tie as tie
 

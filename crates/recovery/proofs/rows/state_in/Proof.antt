@@ -1,5 +1,5 @@
 -- `state_in` meets its contract: the word at the entry's place. Assumes nothing.
-use Rattle.recovery.specs.Rows.{entry-room, entry-state}
+use Rattle.recovery.proofs.Laws.Rows.{entry-room, entry-state}
 use borrow.Author.Needs.{needs}
 use Rattle.recovery.proofs.rows.state_in.Statement.{statement}
 use Rattle.recovery.proofs.rows.state_in.Tie as tie

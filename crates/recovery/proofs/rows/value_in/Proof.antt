@@ -1,5 +1,5 @@
 -- `value_in` meets its contract: the word after the entry's place. Assumes nothing.
-use Rattle.recovery.specs.Rows.{entry-room, entry-value}
+use Rattle.recovery.proofs.Laws.Rows.{entry-room, entry-value}
 use borrow.Author.Needs.{needs}
 use Rattle.recovery.proofs.rows.value_in.Statement.{statement}
 use Rattle.recovery.proofs.rows.value_in.Tie as tie

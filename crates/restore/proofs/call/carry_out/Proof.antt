@@ -1,5 +1,5 @@
 -- `carry_out` meets its contract: the call that it is given has its plan and its scratch. Assumes nothing.
-use Rattle.restore.specs.CallCode.{out-format, out-check, out-stretch, out-read, out-write, out-evict, out-open, out-create, out-commit, out-abandon, out-recover}
+use Rattle.restore.proofs.Laws.CallCode.{out-format, out-check, out-stretch, out-read, out-write, out-evict, out-open, out-create, out-commit, out-abandon, out-recover}
 use borrow.Author.Needs.{needs}
 use Rattle.restore.proofs.call.carry_out.Statement.{statement}
 use Rattle.restore.proofs.call.carry_out.Tie as tie

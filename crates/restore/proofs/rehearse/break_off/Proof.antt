@@ -3,7 +3,7 @@ use Prim.Native.Nat.{_≤_, _-_}
 use mathlib.Core.Path.{_≡_}
 use lib.ListN.{length, drop}
 use Rattle.restore.specs.Rehearsal.{brokenAt}
-use Rattle.restore.specs.RehearseCode.{broken-none, broken-next, broken-end}
+use Rattle.restore.proofs.Laws.RehearseCode.{broken-none, broken-next, broken-end}
 use borrow.Author.Needs.{needs}
 use Rattle.restore.proofs.rehearse.break_off.Statement.{statement}
 use Rattle.restore.proofs.rehearse.break_off.Tie as tie

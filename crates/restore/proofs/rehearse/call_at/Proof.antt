@@ -1,5 +1,5 @@
 -- `call_at` meets its contract: the five words of the call. Assumes nothing.
-use Rattle.restore.specs.RehearseCode.{call-here, call-past}
+use Rattle.restore.proofs.Laws.RehearseCode.{call-here, call-past}
 use borrow.Author.Needs.{needs}
 use Rattle.restore.proofs.rehearse.call_at.Statement.{statement}
 use Rattle.restore.proofs.rehearse.call_at.Tie as tie

@@ -1,5 +1,5 @@
 -- `call_by` meets its contract: a law for each operation. Assumes nothing.
-use Rattle.restore.specs.RehearseCode.{by-format, by-read, by-write, by-evict, by-open, by-create, by-commit, by-abandon, by-recover, by-stretch, by-check}
+use Rattle.restore.proofs.Laws.RehearseCode.{by-format, by-read, by-write, by-evict, by-open, by-create, by-commit, by-abandon, by-recover, by-stretch, by-check}
 use borrow.Author.Needs.{needs}
 use Rattle.restore.proofs.rehearse.call_by.Statement.{statement}
 use Rattle.restore.proofs.rehearse.call_by.Tie as tie

@@ -1,5 +1,5 @@
 -- `hit` meets its contract: a node of a table of any size, or none. Assumes nothing.
-use Rattle.restore.specs.RehearseCode.{hit-nobody, hit-failed, hit-passed}
+use Rattle.restore.proofs.Laws.RehearseCode.{hit-nobody, hit-failed, hit-passed}
 use borrow.Author.Needs.{needs}
 use Rattle.restore.proofs.rehearse.hit.Statement.{statement}
 use Rattle.restore.proofs.rehearse.hit.Tie as tie

@@ -1,5 +1,5 @@
 -- `hit_node` meets its contract. Assumes nothing.
-use Rattle.restore.specs.RehearseCode.{hit-there, hit-not-there}
+use Rattle.restore.proofs.Laws.RehearseCode.{hit-there, hit-not-there}
 use borrow.Author.Needs.{needs}
 use Rattle.restore.proofs.rehearse.hit_node.Statement.{statement}
 use Rattle.restore.proofs.rehearse.hit_node.Tie as tie

@@ -1,5 +1,5 @@
 -- `node_word_at` meets its contract. Assumes nothing.
-use Rattle.restore.specs.RehearseCode.{node-mark, node-entry}
+use Rattle.restore.proofs.Laws.RehearseCode.{node-mark, node-entry}
 use borrow.Author.Needs.{needs}
 use Rattle.restore.proofs.rehearse.node_word_at.Statement.{statement}
 use Rattle.restore.proofs.rehearse.node_word_at.Tie as tie

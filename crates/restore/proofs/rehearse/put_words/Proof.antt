@@ -3,7 +3,7 @@ use Prim.Native.Nat.{_≤_, _-_}
 use mathlib.Core.Path.{_≡_}
 use lib.ListN.{length}
 use Rattle.restore.specs.Rehearsal.{putTo}
-use Rattle.restore.specs.RehearseCode.{put-none, put-next, put-end}
+use Rattle.restore.proofs.Laws.RehearseCode.{put-none, put-next, put-end}
 use borrow.Author.Needs.{needs}
 use Rattle.restore.proofs.rehearse.put_words.Statement.{statement}
 use Rattle.restore.proofs.rehearse.put_words.Tie as tie

@@ -1,6 +1,6 @@
 -- `rehearse` meets its contract: the definitions one after the other, and with them the demand. Assumes nothing.
 use mathlib.Core.Path.{_∙_}
-use Rattle.restore.specs.RehearseCode.{rehearsed}
+use Rattle.restore.proofs.Laws.RehearseCode.{rehearsed}
 use borrow.Author.Needs.{needs}
 use Rattle.restore.proofs.rehearse.rehearse.Statement.{statement}
 use Rattle.restore.proofs.rehearse.rehearse.Tie as tie

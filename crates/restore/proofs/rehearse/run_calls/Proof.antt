@@ -4,7 +4,7 @@ use mathlib.Core.Path.{_≡_, refl}
 use lib.ListN.{length}
 use Rattle.restore.specs.Run.{run}
 use Rattle.restore.specs.Rehearsal.{stepsTo}
-use Rattle.restore.specs.RehearseCode.{ran-none, ran-next, ran-end}
+use Rattle.restore.proofs.Laws.RehearseCode.{ran-none, ran-next, ran-end}
 use borrow.Author.Needs.{needs}
 use Rattle.restore.proofs.rehearse.run_calls.Statement.{statement}
 use Rattle.restore.proofs.rehearse.run_calls.Tie as tie

@@ -1,5 +1,5 @@
 -- `strike` meets its contract: the cut call, and the hit on the table that it leaves. Assumes nothing.
-use Rattle.restore.specs.RehearseCode.{struck-is}
+use Rattle.restore.proofs.Laws.RehearseCode.{struck-is}
 use borrow.Author.Needs.{needs}
 use Rattle.restore.proofs.rehearse.strike.Statement.{statement}
 use Rattle.restore.proofs.rehearse.strike.Tie as tie

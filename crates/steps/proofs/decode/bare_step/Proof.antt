@@ -1,6 +1,6 @@
 -- `bare_step` meets its contract: a law for a record that keeps the rule, and for one that breaks it. Assumes nothing.
 use borrow.Author.Needs.{needs}
-use Rattle.steps.specs.StepCode.{bare-kept, bare-broken}
+use Rattle.steps.proofs.Laws.StepCode.{bare-kept, bare-broken}
 use Rattle.steps.proofs.decode.bare_step.Statement.{statement}
 use Rattle.steps.proofs.decode.bare_step.Tie as tie
 

@@ -1,7 +1,7 @@
 -- `decode` meets its contract: the operation picks the step. Assumes nothing.
 use borrow.Author.Needs.{needs}
 use Rattle.steps.specs.Steps.{stepBy}
-use Rattle.steps.specs.StepCode.{step-by, step-other}
+use Rattle.steps.proofs.Laws.StepCode.{step-by, step-other}
 use Rattle.steps.proofs.decode.decode.Statement.{statement}
 use Rattle.steps.proofs.decode.decode.Tie as tie
 

@@ -1,6 +1,6 @@
 -- `evict_step` meets its contract: a law for a record that keeps the rule, and for one that breaks it. Assumes nothing.
 use borrow.Author.Needs.{needs}
-use Rattle.steps.specs.StepCode.{evict-kept, evict-broken}
+use Rattle.steps.proofs.Laws.StepCode.{evict-kept, evict-broken}
 use Rattle.steps.proofs.decode.evict_step.Statement.{statement}
 use Rattle.steps.proofs.decode.evict_step.Tie as tie
 

@@ -1,6 +1,6 @@
 -- `format_step` meets its contract: a law for a record that keeps the rule, and for one that breaks it. Assumes nothing.
 use borrow.Author.Needs.{needs}
-use Rattle.steps.specs.StepCode.{format-kept, format-broken}
+use Rattle.steps.proofs.Laws.StepCode.{format-kept, format-broken}
 use Rattle.steps.proofs.decode.format_step.Statement.{statement}
 use Rattle.steps.proofs.decode.format_step.Tie as tie
 

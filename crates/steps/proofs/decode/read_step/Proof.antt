@@ -1,6 +1,6 @@
 -- `read_step` meets its contract: a law for a record that keeps the rule, and for one that breaks it. Assumes nothing.
 use borrow.Author.Needs.{needs}
-use Rattle.steps.specs.StepCode.{read-kept, read-broken}
+use Rattle.steps.proofs.Laws.StepCode.{read-kept, read-broken}
 use Rattle.steps.proofs.decode.read_step.Statement.{statement}
 use Rattle.steps.proofs.decode.read_step.Tie as tie
 

@@ -1,6 +1,6 @@
 -- `write_step` meets its contract: a law for a record that keeps the rule, and for one that breaks it. Assumes nothing.
 use borrow.Author.Needs.{needs}
-use Rattle.steps.specs.StepCode.{write-kept, write-broken}
+use Rattle.steps.proofs.Laws.StepCode.{write-kept, write-broken}
 use Rattle.steps.proofs.decode.write_step.Statement.{statement}
 use Rattle.steps.proofs.decode.write_step.Tie as tie
 

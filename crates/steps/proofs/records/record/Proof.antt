@@ -1,7 +1,7 @@
 -- `record` meets its contract: too few bytes, or the step of the two words. Assumes nothing.
 use native.Mathlib.Omega.{arith}
 use borrow.Author.Needs.{needs}
-use Rattle.steps.specs.Records.{record-short, record-whole}
+use Rattle.steps.proofs.Laws.Records.{record-short, record-whole}
 use Rattle.steps.proofs.records.record.Statement.{statement}
 use Rattle.steps.proofs.records.record.Tie as tie
 

@@ -1,7 +1,7 @@
 -- `close` meets its contract: the largest number, then the marks. Assumes nothing.
 use Rattle.table.specs.View.{view}
 use Rattle.survivors.specs.Survivors.{survivors}
-use Rattle.survivors.specs.ClosingMarksCode.{closing-stored}
+use Rattle.survivors.proofs.Laws.ClosingMarksCode.{closing-stored}
 use borrow.Author.Needs.{needs}
 use Rattle.survivors.proofs.closing.close.Statement.{statement}
 use Rattle.survivors.proofs.closing.close.Tie as tie

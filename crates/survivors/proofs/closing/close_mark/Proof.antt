@@ -1,6 +1,6 @@
 -- `close_mark` meets its contract: a node that is no survivor, or one. Assumes nothing.
-use Rattle.table.specs.Stores.{stored-as, stored-none}
-use Rattle.table.specs.MarksPass.{mark-passed, mark-turned}
+use Rattle.table.proofs.Laws.Stores.{stored-as, stored-none}
+use Rattle.table.proofs.Laws.MarksPass.{mark-passed, mark-turned}
 use borrow.Author.Needs.{needs}
 use Rattle.survivors.proofs.closing.close_mark.Statement.{statement}
 use Rattle.survivors.proofs.closing.close_mark.Tie as tie

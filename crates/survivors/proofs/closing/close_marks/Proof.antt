@@ -1,10 +1,11 @@
 -- `close_marks` meets its contract: a turn finds its mark as it was at the start. Assumes nothing.
 use Prim.Native.Nat.{_≤_, _-_}
-use Rattle.table.specs.Stores.{Stored, runs, loop-starts, loop-ends}
+use Rattle.table.specs.Stores.{Stored, runs}
+use Rattle.table.proofs.Laws.Stores.{loop-starts, loop-ends}
 use Rattle.table.specs.View.{view}
 use Rattle.table.specs.MarksPass.{markTo, marksTo}
 use Rattle.survivors.specs.Survivors.{survivors}
-use Rattle.survivors.specs.ClosingMarksCode.{survivor-mark-turn}
+use Rattle.survivors.proofs.Laws.ClosingMarksCode.{survivor-mark-turn}
 use borrow.Author.Needs.{needs}
 use Rattle.survivors.proofs.closing.close_marks.Statement.{statement}
 use Rattle.survivors.proofs.closing.close_marks.Tie as tie

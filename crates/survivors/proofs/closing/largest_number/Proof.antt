@@ -5,7 +5,7 @@ use Rattle.table.specs.Words.{numberOf}
 use Rattle.table.specs.View.{view}
 use Rattle.survivors.specs.Survivors.{survivors}
 use Rattle.survivors.specs.ClosingMarks.{largest}
-use Rattle.survivors.specs.ClosingMarksCode.{largest-none, largest-next, largest-ends}
+use Rattle.survivors.proofs.Laws.ClosingMarksCode.{largest-none, largest-next, largest-ends}
 use borrow.Author.Needs.{needs}
 use Rattle.survivors.proofs.closing.largest_number.Statement.{statement}
 use Rattle.survivors.proofs.closing.largest_number.Tie as tie

@@ -1,7 +1,7 @@
 -- `commits_at` meets its contract: a survivor with phase 2. Assumes nothing.
 use Rattle.table.specs.View.{view}
 use Rattle.survivors.specs.Survivors.{survivors}
-use Rattle.survivors.specs.DirectionCode.{commits-here}
+use Rattle.survivors.proofs.Laws.DirectionCode.{commits-here}
 use borrow.Author.Needs.{needs}
 use Rattle.survivors.proofs.direction.commits_at.Statement.{statement}
 use Rattle.survivors.proofs.direction.commits_at.Tie as tie

@@ -1,5 +1,5 @@
 -- `lost_by` meets its contract: the node, or none. Assumes nothing.
-use Rattle.survivors.specs.Lost.{lost-node, lost-nobody}
+use Rattle.survivors.proofs.Laws.Lost.{lost-node, lost-nobody}
 use Rattle.survivors.proofs.lost.lost_by.Statement.{statement}
 use Rattle.survivors.proofs.lost.lost_by.Tie as tie
 

@@ -1,5 +1,5 @@
 -- `lost_outside` meets its contract: nobody, or a node. Assumes nothing.
-use Rattle.survivors.specs.SurvivorsCode.{outside-node}
+use Rattle.survivors.proofs.Laws.SurvivorsCode.{outside-node}
 use borrow.Author.Needs.{needs}
 use Rattle.survivors.proofs.nodes.lost_outside.Statement.{statement}
 use Rattle.survivors.proofs.nodes.lost_outside.Tie as tie

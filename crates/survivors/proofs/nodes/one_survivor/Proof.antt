@@ -1,7 +1,7 @@
 -- `one_survivor` meets its contract: a survivor, or none. Assumes nothing.
 use Rattle.table.specs.View.{view}
 use Rattle.survivors.specs.Survivors.{survivors}
-use Rattle.survivors.specs.SurvivorsCode.{one-dead, one-live}
+use Rattle.survivors.proofs.Laws.SurvivorsCode.{one-dead, one-live}
 use borrow.Author.Needs.{needs}
 use Rattle.survivors.proofs.nodes.one_survivor.Statement.{statement}
 use Rattle.survivors.proofs.nodes.one_survivor.Tie as tie

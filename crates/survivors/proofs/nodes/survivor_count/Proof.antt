@@ -1,11 +1,12 @@
 -- `survivor_count` meets its contract: the loop has counted the nodes before `node`. Assumes nothing.
 use Prim.Native.Nat.{_≤_, _-_}
 use mathlib.Core.Path.{_≡_}
-use Rattle.counting.specs.Counting.{count, count-none}
+use Rattle.counting.specs.Counting.{count}
+use Rattle.counting.proofs.Laws.Counting.{count-none}
 use Rattle.table.specs.View.{view, live}
 use Rattle.survivors.specs.Survivors.{survivors}
-use Rattle.counting.specs.Counting.{count-turn}
-use Rattle.survivors.specs.SurvivorsCode.{count-end}
+use Rattle.counting.proofs.Laws.Counting.{count-turn}
+use Rattle.survivors.proofs.Laws.SurvivorsCode.{count-end}
 use borrow.Author.Needs.{needs}
 use Rattle.survivors.proofs.nodes.survivor_count.Statement.{statement}
 use Rattle.survivors.proofs.nodes.survivor_count.Tie as tie

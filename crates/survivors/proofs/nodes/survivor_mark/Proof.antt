@@ -1,5 +1,5 @@
 -- `survivor_mark` meets its contract: nobody is lost, this node, or another. Assumes nothing.
-use Rattle.survivors.specs.SurvivorsCode.{mark-nobody, mark-lost, mark-other}
+use Rattle.survivors.proofs.Laws.SurvivorsCode.{mark-nobody, mark-lost, mark-other}
 use borrow.Author.Needs.{needs}
 use Rattle.survivors.proofs.nodes.survivor_mark.Statement.{statement}
 use Rattle.survivors.proofs.nodes.survivor_mark.Tie as tie

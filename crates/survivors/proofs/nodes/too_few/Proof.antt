@@ -1,5 +1,5 @@
 -- `too_few` meets its contract: by the count of the survivors. Assumes nothing.
-use Rattle.survivors.specs.SurvivorsCode.{few-counted}
+use Rattle.survivors.proofs.Laws.SurvivorsCode.{few-counted}
 use borrow.Author.Needs.{needs}
 use Rattle.survivors.proofs.nodes.too_few.Statement.{statement}
 use Rattle.survivors.proofs.nodes.too_few.Tie as tie

@@ -2,8 +2,8 @@
 use Prim.Native.Nat.{_*_, _-_, _≤_}
 use mathlib.Core.Path.{refl}
 use native.Mathlib.Omega.{arith}
-use Rattle.table.specs.Geometry.{product}
-use Rattle.survivors.specs.SurvivorsCode.{few-two, few-room}
+use Rattle.table.proofs.Laws.Geometry.{product}
+use Rattle.survivors.proofs.Laws.SurvivorsCode.{few-two, few-room}
 use borrow.Author.Needs.{needs}
 use Rattle.survivors.proofs.nodes.too_few_with.Statement.{statement}
 use Rattle.survivors.proofs.nodes.too_few_with.Tie as tie

@@ -1,7 +1,8 @@
 -- `numbers_of` meets its contract: a case of `numbersOf` for each arm. Assumes nothing.
 use mathlib.Core.Path.{sym, ap}
 use borrow.Author.Needs.{needs}
-use Rattle.table.specs.Answers.{numbersOf, numbers-refused}
+use Rattle.table.specs.Answers.{numbersOf}
+use Rattle.table.proofs.Laws.Answers.{numbers-refused}
 use Rattle.table.proofs.answers.numbers_of.Statement.{statement}
 use Rattle.table.proofs.answers.numbers_of.Tie as tie
 

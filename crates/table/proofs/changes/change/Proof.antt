@@ -3,7 +3,7 @@ use Prim.Native.Nat.{_<_, _%_}
 use mathlib.Core.Path.{_≡_, refl}
 use native.Mathlib.Omega.{arith}
 use borrow.Author.Needs.{needs}
-use Rattle.table.specs.Changes.{change-row}
+use Rattle.table.proofs.Laws.Changes.{change-row}
 use Rattle.table.proofs.changes.change.Statement.{statement}
 use Rattle.table.proofs.changes.change.Tie as tie
 

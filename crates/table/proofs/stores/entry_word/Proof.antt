@@ -1,6 +1,6 @@
 -- `entry_word` meets its contract: a word of the entry, or the zero of one that is not there. Assumes nothing.
 use native.Mathlib.Omega.{arith}
-use Rattle.table.specs.View.{entry-word, word-none}
+use Rattle.table.proofs.Laws.View.{entry-word, word-none}
 use borrow.Author.Needs.{needs}
 use Rattle.table.proofs.stores.entry_word.Statement.{statement}
 use Rattle.table.proofs.stores.entry_word.Tie as tie

@@ -1,6 +1,6 @@
 -- `kept_value_at` meets its contract: a word of the entry. Assumes nothing.
 use mathlib.Core.Path.{_∙_}
-use Rattle.table.specs.View.{kept-value-read}
+use Rattle.table.proofs.Laws.View.{kept-value-read}
 use borrow.Author.Needs.{needs}
 use Rattle.table.proofs.stores.kept_value_at.Statement.{statement}
 use Rattle.table.proofs.stores.kept_value_at.Tie as tie

@@ -1,6 +1,6 @@
 -- `mark_at` meets its contract: a mark, or the zero of a node that is not there. Assumes nothing.
 use borrow.Author.Needs.{needs}
-use Rattle.table.specs.View.{mark-read, mark-none}
+use Rattle.table.proofs.Laws.View.{mark-read, mark-none}
 use Rattle.table.proofs.stores.mark_at.Statement.{statement}
 use Rattle.table.proofs.stores.mark_at.Tie as tie
 

@@ -1,6 +1,6 @@
 -- `next_ahead` meets its contract: two less, or around. Assumes nothing.
 use native.Mathlib.Omega.{arith}
-use Rattle.table.specs.Rows.{next-near, next-far}
+use Rattle.table.proofs.Laws.Rows.{next-near, next-far}
 use borrow.Author.Needs.{needs}
 use Rattle.table.proofs.stores.next_ahead.Statement.{statement}
 use Rattle.table.proofs.stores.next_ahead.Tie as tie

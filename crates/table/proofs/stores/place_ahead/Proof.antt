@@ -1,6 +1,6 @@
 -- `place_ahead` meets its contract: a place for each way out. Assumes nothing.
 use native.Mathlib.Omega.{arith}
-use Rattle.table.specs.Rows.{place-first, place-second, place-none}
+use Rattle.table.proofs.Laws.Rows.{place-first, place-second, place-none}
 use Rattle.table.proofs.stores.place_ahead.Statement.{statement}
 use Rattle.table.proofs.stores.place_ahead.Tie as tie
 

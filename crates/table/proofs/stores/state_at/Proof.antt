@@ -1,6 +1,6 @@
 -- `state_at` meets its contract: a word of the entry. Assumes nothing.
 use mathlib.Core.Path.{_∙_}
-use Rattle.table.specs.View.{state-read}
+use Rattle.table.proofs.Laws.View.{state-read}
 use borrow.Author.Needs.{needs}
 use Rattle.table.proofs.stores.state_at.Statement.{statement}
 use Rattle.table.proofs.stores.state_at.Tie as tie

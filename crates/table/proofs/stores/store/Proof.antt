@@ -1,6 +1,6 @@
 -- `store` meets its contract: nothing left, past the end, or written. Assumes nothing.
 use borrow.Author.Needs.{needs}
-use Rattle.table.specs.Stores.{wrote-cut, wrote-past, wrote-word}
+use Rattle.table.proofs.Laws.Stores.{wrote-cut, wrote-past, wrote-word}
 use Rattle.table.proofs.stores.store.Statement.{statement}
 use Rattle.table.proofs.stores.store.Tie as tie
 

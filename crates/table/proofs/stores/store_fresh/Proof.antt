@@ -1,5 +1,5 @@
 -- `store_fresh` meets its contract: state, value, kept value. Assumes nothing.
-use Rattle.table.specs.Rows.{fresh-then}
+use Rattle.table.proofs.Laws.Rows.{fresh-then}
 use borrow.Author.Needs.{needs}
 use Rattle.table.proofs.stores.store_fresh.Statement.{statement}
 use Rattle.table.proofs.stores.store_fresh.Tie as tie

@@ -2,7 +2,7 @@
 use mathlib.Core.Path.{refl}
 use native.Mathlib.Omega.{arith}
 use borrow.Author.Needs.{needs}
-use Rattle.table.specs.Stores.{stored-one}
+use Rattle.table.proofs.Laws.Stores.{stored-one}
 use Rattle.table.proofs.stores.store_kept.Statement.{statement}
 use Rattle.table.proofs.stores.store_kept.Tie as tie
 

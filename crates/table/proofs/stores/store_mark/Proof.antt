@@ -1,7 +1,7 @@
 -- `store_mark` meets its contract: one word, where and as the store says. Assumes nothing.
 use mathlib.Core.Path.{refl}
 use native.Mathlib.Omega.{arith}
-use Rattle.table.specs.Stores.{stored-one}
+use Rattle.table.proofs.Laws.Stores.{stored-one}
 use borrow.Author.Needs.{needs}
 use Rattle.table.proofs.stores.store_mark.Statement.{statement}
 use Rattle.table.proofs.stores.store_mark.Tie as tie

@@ -1,6 +1,6 @@
 -- `store_row` meets its contract: the loop has stored the items before `item`. Assumes nothing.
 use Prim.Native.Nat.{_-_}
-use Rattle.table.specs.Rows.{Row, row-starts, row-turns, row-ends}
+use Rattle.table.proofs.Laws.Rows.{Row, row-starts, row-turns, row-ends}
 use borrow.Author.Needs.{needs}
 use Rattle.table.proofs.stores.store_row.Statement.{statement}
 use Rattle.table.proofs.stores.store_row.Tie as tie

@@ -1,6 +1,6 @@
 -- `store_size` meets its contract: one word, where and as the store says. Assumes nothing.
 use mathlib.Core.Path.{refl}
-use Rattle.table.specs.Stores.{stored-one}
+use Rattle.table.proofs.Laws.Stores.{stored-one}
 use borrow.Author.Needs.{needs}
 use Rattle.table.proofs.stores.store_size.Statement.{statement}
 use Rattle.table.proofs.stores.store_size.Tie as tie

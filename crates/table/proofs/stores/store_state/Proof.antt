@@ -1,7 +1,7 @@
 -- `store_state` meets its contract: one word, where and as the store says. Assumes nothing.
 use native.Mathlib.Omega.{arith}
 use borrow.Author.Needs.{needs}
-use Rattle.table.specs.Stores.{stored-one}
+use Rattle.table.proofs.Laws.Stores.{stored-one}
 use Rattle.table.proofs.stores.store_state.Statement.{statement}
 use Rattle.table.proofs.stores.store_state.Tie as tie
 

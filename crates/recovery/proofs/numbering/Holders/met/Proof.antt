@@ -1,5 +1,5 @@
 -- `Holders::met` meets its contract: both counts with the copy. Assumes nothing.
-use Rattle.recovery.specs.NumberingCode.{met-both}
+use Rattle.recovery.proofs.Laws.NumberingCode.{met-both}
 use borrow.Author.Needs.{needs}
 use Rattle.recovery.proofs.numbering.Holders.met.Statement.{statement}
 use Rattle.recovery.proofs.numbering.Holders.met.Tie as tie

@@ -1,5 +1,5 @@
 -- `Holders::of` meets its contract: one number, or the other. Assumes nothing.
-use Rattle.recovery.specs.NumberingCode.{of-first, of-second}
+use Rattle.recovery.proofs.Laws.NumberingCode.{of-first, of-second}
 use Rattle.recovery.proofs.numbering.Holders.of.Statement.{statement}
 use Rattle.recovery.proofs.numbering.Holders.of.Tie as tie
 

@@ -4,7 +4,8 @@ use mathlib.Core.Path.{_≡_}
 use Prim.Native.Nat.{_*_, _-_, _≤_}
 use native.Mathlib.Omega.{arith}
 use borrow.Author.Tests.{not-true, not-false, lt-ltb, le-ltb}
-use Rattle.table.specs.Geometry.{product, sized, Sized, inRanges, geometryOf}
+use Rattle.table.specs.Geometry.{inRanges, geometryOf}
+use Rattle.table.proofs.Laws.Geometry.{product, sized, Sized}
 use Rattle.table.proofs.geometry.Geometry.new.Statement.{statement}
 use Rattle.table.proofs.geometry.Geometry.new.Tie as tie
 

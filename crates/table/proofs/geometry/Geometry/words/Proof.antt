@@ -1,7 +1,7 @@
 -- `Geometry::words` meets its contract: of narrow numbers no product overflows. Assumes nothing.
 use Prim.Native.Nat.{_*_, _≤_}
 use native.Mathlib.Omega.{arith}
-use Rattle.table.specs.Geometry.{product}
+use Rattle.table.proofs.Laws.Geometry.{product}
 use borrow.Author.Needs.{needs}
 use Rattle.table.proofs.geometry.Geometry.words.Statement.{statement}
 use Rattle.table.proofs.geometry.Geometry.words.Tie as tie

@@ -1,0 +1,88 @@
+-- The laws of `specs/code/CreateCode.antt`.
+use Prim.Native.Nat.{ℕ, _<_, _≤_}
+use mathlib.Core.Path.{_≡_, refl, ap, _∙_}
+use mathlib.Core.Bool.{not, _&&_}
+use mathlib.Core.List.{List, [], _∷_}
+use native.Mathlib.Omega.{arith}
+use lib.Dec.{eqb}
+use borrow.Author.Tests.{eq-eqb, ne-eqb, lt-ltb, le-ltb, ltb-true}
+use Rattle.counting.specs.First.{first}
+use Rattle.counting.proofs.Laws.First.{first-passes}
+use Rattle.table.specs.declared.geometry.Geometry.{Geometry}
+use Rattle.table.specs.declared.answers.Refusal.the-variants.{NoHome}
+use Rattle.table.specs.Words.{keptOf, shared, precommit1, precommit2}
+use Rattle.table.specs.Stores.{Stored, entryStore, stateTo}
+use Rattle.table.proofs.Laws.Stores.{stored-then, stored-two}
+use Rattle.table.specs.View.{View, view, current}
+use Rattle.table.specs.declared.answers.Answer.{Answer}
+use Rattle.table.specs.Answers.{refuse, nothingLeft, carry, Meets}
+use Rattle.homes.proofs.Laws.Plans.{meets-as}
+use Rattle.homes.specs.declared.places.Place.the-variants.{Current}
+use Rattle.homes.specs.declared.home.Arrival.{Arrival}
+use Rattle.entries.specs.Dirty.{ownerOf, dirty, dirtyItem}
+use Rattle.homes.specs.Home.{homeOf, arrivalOf, homeStores, homeStoresBy}
+use Rattle.checkpoints.specs.Create.{sharesAt, sharerOf, partnerStores, createItem, noPartner, createPlan}
+use Rattle.checkpoints.specs.code.CreateCode.{itemPlan, sharerStores, takenStores}
+
+-- ---- a sharer
+
+pub shares-here :
+    (v : View) (b k : ℕ) {mark c : ℕ} → mark ≡ v .mark k → c ≡ current (v .entry k b) → (not (eqb mark 0) && eqb c shared) ≡ sharesAt v b k
+unfolding sharesAt
+shares-here v b k h e = rw (h, e) refl
+
+-- ---- the item to be created
+
+module _ (g : Geometry) (v : View) {b : ℕ} (h : b ≡ dirtyItem g v) where
+  pub none-left : g .items ≤ b → createPlan g v ≡ nothingLeft
+  unfolding createPlan
+  none-left l = rw (← h, le-ltb b (g .items) l) refl
+
+  pub next-plan : b < g .items → createPlan g v ≡ itemPlan g v b
+  unfolding createPlan itemPlan
+  next-plan l = rw (← h, lt-ltb b (g .items) l) refl
+
+  -- a dirty item has an owner
+  pub next-owned : b < g .items → ownerOf g v b < g .nodes
+  unfolding dirtyItem dirty
+  next-owned l =
+      let k : b ≡ first (dirty g v) (g .items) = h in
+      ltb-true (ownerOf g v b) (g .nodes) (ap (dirty g v) k ∙ first-passes (dirty g v) (g .items) (omega arith))
+
+-- its plan, carried out, is the whole answer
+pub next-meets :
+    (g : Geometry) (b : ℕ) {limit : ℕ} {t t′ : List ℕ} {r : Answer} → b ≡ dirtyItem g (view g t) → b < g .items
+    → Meets (itemPlan g (view g t) b) limit t t′ r → Meets (createPlan g (view g t)) limit t t′ r
+next-meets g b {t = t} h l m = meets-as (next-plan g (view g t) h l) m
+
+-- ---- its stores: the owner o, and a sharer s or a home h
+
+module _ (g : Geometry) (b o : ℕ) {w k left left₁ left₂ : ℕ} {t t₁ t₂ : List ℕ} (p : w ≡ view g t .entry o b .state) (q : k ≡ keptOf w)
+    (first : Stored g left (entryStore o b (stateTo precommit1 k) ∷ []) t t₁ left₁) where
+  pub sharer-then :
+      (s : ℕ) {x j : ℕ} → x ≡ view g t .entry s b .state → j ≡ keptOf x
+      → Stored g left₁ (entryStore s b (stateTo precommit2 j) ∷ []) t₁ t₂ left₂ → Stored g left (sharerStores (view g t) b o s) t t₂ left₂
+  unfolding sharerStores
+  sharer-then s r e then = rw (← p, ← q, ← r, ← e) (stored-two first then)
+
+  pub taken-then :
+      (h : ℕ) {value : ℕ} {a : Arrival} → value ≡ view g t .entry o b .value → a ≡ arrivalOf g (view g t) Current h b
+      → Stored g left₁ (homeStoresBy Current h b precommit2 value a) t₁ t₂ left₂ → Stored g left (takenStores g (view g t) b o h) t t₂ left₂
+  unfolding takenStores homeStores
+  taken-then h r e then = rw (← p, ← q, ← r, ← e) (stored-then first then)
+
+-- ---- its plan
+
+module _ (g : Geometry) (v : View) (b : ℕ) {o s : ℕ} (p : o ≡ ownerOf g v b) (q : s ≡ sharerOf g v b) where
+  pub item-shared : s < g .nodes → itemPlan g v b ≡ carry g 0 (sharerStores v b o s)
+  unfolding itemPlan noPartner createItem partnerStores sharerStores
+  item-shared l = rw (← p, ← q, lt-ltb s (g .nodes) l) refl
+
+  module _ (l : g .nodes ≤ s) {h : ℕ} (r : h ≡ homeOf g v Current o b) where
+    pub item-none : h ≡ o → itemPlan g v b ≡ refuse NoHome
+    unfolding itemPlan noPartner
+    item-none e = rw (← p, ← q, le-ltb s (g .nodes) l, ← r, eq-eqb h o e) refl
+
+    pub item-taken : (h ≡ o → ⊥) → itemPlan g v b ≡ carry g 0 (takenStores g v b o h)
+    unfolding itemPlan noPartner createItem partnerStores takenStores
+    item-taken e = rw (← p, ← q, le-ltb s (g .nodes) l, ← r, ne-eqb h o e) refl

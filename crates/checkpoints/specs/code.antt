@@ -1,0 +1,4 @@
+-- What only the contracts of private functions cite.
+pub mod Checkpoint
+pub mod ClosingCode
+pub mod CreateCode

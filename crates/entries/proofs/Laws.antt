@@ -1,0 +1,25 @@
+-- The laws of the definitions of `specs/`, for the proofs of this crate and of the crates over it.
+pub mod Frames
+pub mod Sound
+pub mod Row
+pub mod RowFrames
+pub mod SurveyFields
+pub mod SurveyStep
+pub mod SurveyKinds
+pub mod SurveySound
+pub mod SurveyWeight
+pub mod SurveyGather
+pub mod SurveyNoting
+pub mod MarksLoop
+pub mod SurveyDirty
+pub mod Check
+pub mod Kinds
+pub mod Codes
+pub mod KindFacts
+pub mod KindTests
+pub mod Back
+pub mod Update
+pub mod Sharers
+pub mod SoundFacts
+pub mod CheckFacts
+pub mod Unread

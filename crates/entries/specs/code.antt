@@ -1,0 +1,10 @@
+-- What only the contracts of private functions cite.
+pub mod Frames
+pub mod Row
+pub mod RowFrames
+pub mod Survey
+pub mod SurveyRow
+pub mod SurveySound
+pub mod SurveyGather
+pub mod MarksLoop
+pub mod SurveyDirty

@@ -1,0 +1,201 @@
+-- THE THEOREM of Format: whatever the slice held before, a formatted table passes the table checks, for every allowed geometry. And what it shows.
+use mathlib.Core.Path.{_≡_, refl, sym, ap, _∙_}
+use mathlib.Core.Logic.{_≢_}
+use mathlib.Core.Bool.{true, not}
+use mathlib.Core.List.{List, _∷_, _++_}
+use Prim.Native.Nat.{ℕ, zero, suc, _+_, _-_, _*_, _/_, _%_, _<_, _≤_}
+use native.Mathlib.Omega.{arith}
+use native.Mathlib.Nat.{mod-lt, add-zero}
+use lib.Arith.{digits-div, digits-mod, digits-lt}
+use lib.Dec.{eqb, leb}
+use lib.ListN.{length, getD, set}
+use lib.Seq.{getD-set-same}
+use borrow.Author.Tests.{eq-eqb, leb-true}
+use Rattle.counting.proofs.Laws.Tests.{and-both, and-no, both, by-cases}
+use Rattle.counting.specs.Counting.{sum}
+use Rattle.counting.proofs.Laws.Counting.{sum-ext, Only}
+use Rattle.table.specs.declared.geometry.Geometry.{Geometry}
+use Rattle.table.specs.declared.geometry.Made.{Made}
+use Rattle.table.specs.declared.geometry.Made.the-variants.{Allowed, NotAllowed}
+use Rattle.entries.specs.declared.check.Checked.the-variants.{Passed as PassedChecks}
+use Rattle.table.specs.Words.{sharedCK1, sharedCK2, stateForm, stateWord, markWord, markForm, phaseOf, numberOf, sizeWord}
+use Rattle.table.proofs.Laws.Words.{current-state, kept-state}
+use Rattle.table.proofs.Laws.Forms.{alone-form}
+use Rattle.table.specs.Geometry.{allowed, inRanges, geometryOf, wordsOf}
+use Rattle.table.proofs.Laws.Geometry.{sized, roomy, made-allowed}
+use Rattle.table.specs.Stores.{Store, sizeStore, placeOf, wordOf, after, runs}
+use Rattle.table.proofs.Laws.Stores.{All, none, more, all-then, all-runs, after-length, after-off}
+use Rattle.table.specs.View.{Entry, View, view, live, current, kept}
+use Rattle.table.proofs.Laws.Puts.{put₁-case}
+use Rattle.table.proofs.Laws.Via.{Via, done, step, via-then, via-weaken, via-loosen, via-runs, via-whole}
+use Rattle.table.proofs.Laws.Pass.{last, next, pass-via, grid-within, grid-once}
+use Rattle.entries.specs.Frames.{framesAt, frameOf, framesIn, used}
+use Rattle.entries.proofs.Laws.Frames.{frames-state}
+use Rattle.entries.specs.Tally.{has}
+use Rattle.entries.proofs.Laws.Kinds.{Clean, clean, has-code, copy-code, cleanCode}
+use Rattle.entries.proofs.Laws.SoundFacts.{SoundTable}
+use Rattle.entries.specs.Check.{faultOf}
+use Rattle.entries.proofs.Laws.CheckFacts.{facts-accepted}
+use Rattle.table.specs.Answers.{refuse, carry}
+use Rattle.layout.specs.Format.{firstPlace, firstEntry, firstMark, firstEntries, formatStores, formatMade, formatOf}
+use Rattle.layout.proofs.Laws.FirstPlaces.{first-on, second-on, first-only, second-only, place-clean, place-small, holding, held-fits}
+
+-- an entry of a formatted table
+abbrev pub formattedEntry : ℕ → ℕ → ℕ → Entry
+formattedEntry N n b = record { state = stateWord (firstPlace N n b) 0; value = 0; keptValue = 0 }
+
+-- what a formatted table shows
+pub record Formatted (g : Geometry) (v : View) : Type 0 where
+  pub mark : (n : ℕ) → n < g .nodes → v .mark n ≡ markWord 0 0
+  pub entry : (n b : ℕ) → n < g .nodes → b < g .items → v .entry n b ≡ formattedEntry (g .nodes) n b
+
+-- ---- the stores leave it
+
+module _ (g : Geometry) where
+  marked : ℕ → View → Type 0
+  marked i w = (n : ℕ) → n < i → w .mark n ≡ markWord 0 0
+
+  mark-turn : (i : ℕ) → i < g .nodes → (w : View) → Unit {0} → marked i w → Via g (λ _. Unit {0}) (marked (suc i)) w (firstMark i)
+  unfolding marked
+  mark-turn i hi w _ m = step tt hi (done tt (λ n l. put₁-case (λ y. y ≡ markWord 0 0) (w .mark) i (markWord 0 0) n (λ _. refl) (λ d. m n (omega arith))))
+
+  marks-via : (v : View) → Via g (λ _. Unit {0}) (marked (g .nodes)) v (runs firstMark (g .nodes))
+  unfolding marked
+  marks-via v = via-runs marked (g .nodes) firstMark mark-turn tt (λ n l. absurd (omega arith))
+
+  entries-via : (u : View) → marked (g .nodes) u → Via g (λ _. Unit {0}) (Formatted g) u (firstEntries g)
+  unfolding marked firstEntries
+  entries-via u m = via-loosen
+      (via-weaken
+      (pass-via g (λ n b e. Unit {0}) u (λ k. k / g .items) (λ k. k % g .items) (g .nodes * g .items)
+      (grid-within g) (λ k d _ _. grid-once (g .items) k d)
+      (λ k e. e ≡ formattedEntry (g .nodes) (k / g .items) (k % g .items))
+      (λ k. firstEntry g (k / g .items) (k % g .items)) u
+      (λ k l. next tt (next tt (next tt (last tt refl))))
+      (record { marks = refl; entries = λ n b. tt }))
+      (λ w e p. record {
+        mark = λ n l. ap (λ f. f n) (e .marks) ∙ m n l;
+        entry = λ n b l k. rw (digits-div n k, digits-mod n k) at (p .good (n * g .items + b) (digits-lt l k));
+      }))
+      (λ w _. tt)
+
+  pub format-via : (v : View) → Via g (λ _. Unit {0}) (Formatted g) v (formatStores g)
+  unfolding formatStores
+  format-via v = step tt tt (via-then (marks-via v) (λ w _ m. entries-via w m))
+
+-- ---- what it shows is sound
+
+module _ (g : Geometry) (v : View) (f : Formatted g v) (big : 3 ≤ g .nodes) where
+  abbrev N : ℕ
+  N = g .nodes
+
+  formatted-live : (n : ℕ) → n < N → live v n ≡ true
+  formatted-live n l = ap (λ x. not (eqb x 0)) (f .mark n l)
+
+  module _ (n b : ℕ) (l : n < N) (k : b < g .items) where
+    formatted-current : current (v .entry n b) ≡ firstPlace N n b
+    formatted-current = ap current (f .entry n b l k) ∙ current-state (firstPlace N n b) 0 (omega (arith, place-small N n b)) (omega arith)
+
+    formatted-kept : kept (v .entry n b) ≡ 0
+    formatted-kept = ap kept (f .entry n b l k) ∙ kept-state (firstPlace N n b) 0 (omega (arith, place-small N n b)) (omega arith)
+
+  module _ (b : ℕ) (k : b < g .items) where
+    -- a node with a code is the only one with it
+    on : (code m : ℕ) → m < N → firstPlace N m b ≡ code → ((n : ℕ) → firstPlace N n b ≡ code → n ≡ m) → Only N (has v b code) m
+    on code m l e only· = record {
+      within = l;
+      holds = and-both (formatted-live m l) (eq-eqb (current (v .entry m b)) code (formatted-current m b l k ∙ e));
+      alone = λ n h t. only· n (sym (formatted-current n b h k) ∙ has-code v b n code t);
+    }
+
+    pub formatted-clean : Clean v N b
+    formatted-clean = record {
+      one = 2 * b % N;
+      two = (2 * b + 1) % N;
+      value = 0;
+      first = on sharedCK1 (2 * b % N) (mod-lt (2 * b) (omega arith)) (first-on N b (omega arith)) (λ n. first-only N n b);
+      second = on sharedCK2 ((2 * b + 1) % N) (mod-lt (2 * b + 1) (omega arith)) (second-on N b (omega arith)) (λ n. second-only N n b);
+      others = λ n l t. ap cleanCode (formatted-current n b l k) ∙ place-clean N n b (λ z. copy-code v b n t (formatted-current n b l k ∙ z));
+      values = λ n l t. ap (λ e. e .value) (f .entry n b l k);
+      nothing = λ n l. and-no (live v n) (ap not (eq-eqb (kept (v .entry n b)) 0 (formatted-kept n b l k)));
+    }
+
+  -- no node gets more than F of the 2M copies
+  formatted-used : (n : ℕ) → n < N → used g v n 0 ≡ sum (holding N n) (g .items)
+  unfolding used framesAt
+  formatted-used n l = sum-ext (g .items) _ (holding N n)
+      (λ b k. ap (λ e. framesIn (e .state)) (f .entry n b l k)
+      ∙ frames-state (firstPlace N n b) 0 (omega (arith, place-small N n b)) (omega arith) ∙ add-zero (frameOf (firstPlace N n b)))
+
+  pub formatted-sound : 1 ≤ g .frames → 2 * g .items - 1 ≤ (N - 2) * g .frames → SoundTable g v 0 0
+  formatted-sound low room = record {
+    marks = λ n l. ap markForm (f .mark n l);
+    phases = λ n l _. ap phaseOf (f .mark n l);
+    numbers = λ n l _. ap numberOf (f .mark n l);
+    phase-low = omega arith;
+    number-room = λ e. absurd (omega arith);
+    forms = λ n b l k _. ap (λ e. stateForm (e .state)) (f .entry n b l k) ∙ alone-form (firstPlace N n b) (place-small N n b);
+    frames = λ n s l k _. let z : s ≡ 0 = omega arith in rw z (omega (arith, formatted-used n l, held-fits N (g .items) (g .frames) n l big low room));
+    items = λ b k. clean (formatted-clean b k);
+  }
+
+-- ---- the theorem
+
+-- an accepted format: an allowed geometry, a table long enough for it, and these stores
+pub record FormatAccepted (t : List ℕ) (g : Geometry) (ss : List Store) : Type 0 where
+  pub fair : allowed (g .nodes) (g .items) (g .frames) ≡ true
+  pub long : wordsOf g ≤ length t
+  pub stores : ss ≡ formatStores g
+
+pub format-accepted : (t : List ℕ) (n m f : ℕ) {g : Geometry} {x : ℕ} {ss : List Store} → formatOf t n m f ≡ carry g x ss → FormatAccepted t g ss
+unfolding formatMade
+format-accepted t n m f {g} {x} {ss} e = from-made (geometryOf n m f) refl e
+  where
+    from-made : (a : Made) → a ≡ geometryOf n m f → formatMade t a ≡ carry g x ss → FormatAccepted t g ss
+    from-made NotAllowed p e = let z : _≡_ {A = ℕ} 0 1 = cc in absurd (omega arith)
+    from-made (Allowed h) p e = by-cases (leb (wordsOf h) (length t))
+        (λ l. let e′ : carry h 0 (formatStores h) ≡ carry g x ss = rw l at e in
+        let same : h ≡ g = cc in
+        let list : formatStores h ≡ ss = cc in
+        let mk = made-allowed n m f h (sym p) in
+        let fair : allowed (h .nodes) (h .items) (h .frames) ≡ true = rw (mk .1) (mk .0) in
+        record { fair = rw same at fair; long = rw same at (leb-true (wordsOf h) (length t) l); stores = sym list ∙ ap formatStores same })
+        (λ l. let e′ : refuse _ ≡ carry g x ss = rw l at e in let z : _≡_ {A = ℕ} 0 1 = cc in absurd (omega arith))
+
+-- all stores but the first leave word 0
+first-word :
+    (g : Geometry) (limit : ℕ) {ss : List Store} (t : List ℕ) → All (λ s. 0 ≢ placeOf g s) ss → 0 < limit → 0 < length t
+    → getD (after g limit (sizeStore g ∷ ss) t) 0 0 ≡ sizeWord (g .nodes) (g .items) (g .frames)
+unfolding after
+first-word g zero t a l k = absurd (omega arith)
+first-word g (suc limit) t a l k =
+    after-off g 0 limit (set t 0 (wordOf (sizeStore g))) a ∙ getD-set-same t 0 (wordOf (sizeStore g)) 0 k
+
+format-off : (g : Geometry) → All (λ s. 0 ≢ placeOf g s) (runs firstMark (g .nodes) ++ firstEntries g)
+unfolding firstEntries
+format-off g =
+    all-then (all-runs firstMark (g .nodes) (λ i l. more (λ e. omega arith) none))
+    (all-runs _ (g .nodes * g .items) (λ k l. more (λ e. omega arith) (more (λ e. omega arith) (more (λ e. omega arith) none))))
+
+module _ (t : List ℕ) (n m f : ℕ) {g : Geometry} {x : ℕ} {ss : List Store} (accepted : formatOf t n m f ≡ carry g x ss) (limit : ℕ) (whole : length ss ≤ limit) where
+  pub format-shows : Formatted g (view g (after g limit ss t))
+  format-shows =
+      let a = format-accepted t n m f accepted in
+      let l = rw (a .stores) at whole in
+      rw (a .stores) (via-whole t (a .long) (format-via g (view g t)) limit l)
+
+  word-0 : getD (after g limit ss t) 0 0 ≡ sizeWord (g .nodes) (g .items) (g .frames)
+  unfolding formatStores
+  word-0 =
+      let a = format-accepted t n m f accepted in
+      let l : length (formatStores g) ≤ limit = rw (a .stores) at whole in
+      rw (a .stores) (first-word g limit t (format-off g) (omega arith) (omega (arith, a .long)))
+
+  pub format-sound : faultOf (after g limit ss t) ≡ PassedChecks g
+  format-sound =
+      let a = format-accepted t n m f accepted in
+      let s = sized (g .nodes) (g .items) (g .frames) (both (inRanges (g .nodes) (g .items) (g .frames)) (a .fair) .0) in
+      facts-accepted (after g limit ss t) g 0 0 (record {
+        shape = record { word = word-0; fair = a .fair; sizes = s; long = rw (after-length g limit ss t) (a .long) };
+        table = formatted-sound g (view g (after g limit ss t)) format-shows (s .nodes-low) (s .frames-low) (roomy _ _ _ (a .fair));
+      })

@@ -1,0 +1,136 @@
+-- The laws of `specs/code/PartnersSkip.antt`.
+use Prim.Native.Nat.{ℕ, zero, suc, _+_, _-_, _*_, _≤_, _<_}
+use mathlib.Core.Path.{_≡_, refl, sym, ap, _∙_}
+use mathlib.Core.Logic.{_≢_}
+use mathlib.Core.Bool.{Bool, true, false, cond}
+use mathlib.Core.List.{List, [], _∷_, map}
+use native.Mathlib.Omega.{arith}
+use lib.Dec.{eqb}
+use lib.ListN.{getD}
+use borrow.Author.Tests.{eqb-true}
+use Rattle.counting.specs.Counting.{count}
+use Rattle.counting.proofs.Laws.Counting.{count-ext}
+use Rattle.counting.specs.First.{first}
+use Rattle.counting.proofs.Laws.First.{first-le, first-ext}
+use Rattle.table.specs.declared.geometry.Geometry.{Geometry}
+use Rattle.table.specs.Geometry.{entryAt, markAt}
+use Rattle.table.proofs.Laws.Geometry.{entries-apart}
+use Rattle.table.specs.Stores.{Store, Change, sizeStore, markStore, entryStore, Stored, placeOf, partOf}
+use Rattle.table.proofs.Laws.Stores.{part-low, after-off, All, none, more, all-then}
+use Rattle.table.specs.View.{View, view, updates}
+use Rattle.table.proofs.Laws.View.{mark-read, entry-read, entry-same}
+use Rattle.entries.specs.Tally.{copy}
+use Rattle.homes.proofs.Laws.HomeCode.{after-below}
+use Rattle.survivors.specs.declared.lost.Lost.{Lost}
+use Rattle.survivors.specs.Survivors.{survivors}
+use Rattle.survivors.proofs.Laws.SurvivorsCode.{survivor-entry, survivor-marks}
+use Rattle.recovery.specs.Partners.{single, holderOf, takesAfter, partnerOf, partnerChanges, partnerFrom, partnerStores, staged}
+use Rattle.recovery.specs.code.PartnersCode.{Ready, Turned}
+use Rattle.recovery.proofs.Laws.PartnersCode.{holder-there, item-other, items-ready}
+use Rattle.recovery.specs.code.Tallies.{holdersBy, holderBy}
+use Rattle.recovery.specs.code.PartnersSkip.{Single, Settles, Passable}
+
+-- ---- the stores of the items before i
+
+abbrev Before : Geometry → ℕ → Store → Type 0
+Before g i (sizeStore h) = ⊥
+Before g i (markStore n w) = ⊥
+Before g i (entryStore n b c) = (n < g .nodes) × ((b < g .items) × (b < i))
+
+before-changes : (g : Geometry) (i n b : ℕ) (cs : List Change) → n < g .nodes → b < g .items → b < i → All (Before g i) (map (entryStore n b) cs)
+before-changes g i n b [] hn hb h = none
+before-changes g i n b (c ∷ cs) hn hb h = more {s = entryStore n b c} (hn, (hb, h)) (before-changes g i n b cs hn hb h)
+
+before-partner : (g : Geometry) (i b : ℕ) (w : View) → b < g .items → b < i → All (Before g i) (partnerStores g b w)
+unfolding partnerStores single partnerFrom partnerOf
+before-partner g i b w hb hi = go (eqb (count (copy w b) (g .nodes)) 1) refl
+  where
+    stores : (n : ℕ) → n < g .nodes → All (Before g i) (partnerFrom g w b n)
+    stores n h = at (eqb (partnerOf g w b n) n)
+      where
+        below : partnerOf g w b n < g .nodes
+        below = after-below g n h (first (takesAfter g w b n) (g .nodes - 1)) (omega (arith, first-le (takesAfter g w b n) (g .nodes - 1)))
+
+        at : (q : Bool) → All (Before g i) (cond q [] (map (entryStore (partnerOf g w b n) b) (partnerChanges (w .entry n b))))
+        at true = none
+        at false = before-changes g i (partnerOf g w b n) b (partnerChanges (w .entry n b)) below hb hi
+
+    go : (q : Bool) → eqb (count (copy w b) (g .nodes)) 1 ≡ q → All (Before g i) (cond q (partnerFrom g w b (holderOf g w b)) [])
+    go true e = stores (holderOf g w b) (holder-there g w b (eqb-true _ 1 e))
+    go false e = none
+
+before-staged : (g : Geometry) (i k : ℕ) (w : View) → k ≤ g .items → k ≤ i → All (Before g i) (staged (partnerStores g) k w)
+unfolding staged
+before-staged g i zero w h l = none
+before-staged g i (suc k) w h l =
+    all-then (before-staged g i k w (omega arith) (omega arith))
+    (before-partner g i k (updates (staged (partnerStores g) k w) w) (omega arith) (omega arith))
+
+entry-off : (g : Geometry) (i n b k : ℕ) {ss : List Store} → b < g .items → i ≤ b → k < 3 → All (Before g i) ss → All (λ s. entryAt g n b + k ≢ placeOf g s) ss
+entry-off g i n b k hb l h none = none
+entry-off g i n b k hb l h (more {s = sizeStore x} p a) = absurd p
+entry-off g i n b k hb l h (more {s = markStore m w} p a) = absurd p
+entry-off g i n b k hb l h (more {s = entryStore m d c} p a) =
+    more {s = entryStore m d c} (entries-apart g n b m d k (partOf c) h (part-low c) hb (p .1 .0) (λ _ (e : b ≡ d). omega (arith, p .1 .1)))
+    (entry-off g i n b k hb l h a)
+
+mark-off : (g : Geometry) (i n : ℕ) {ss : List Store} → n < g .nodes → All (Before g i) ss → All (λ s. markAt n ≢ placeOf g s) ss
+mark-off g i n hn none = none
+mark-off g i n hn (more {s = sizeStore x} p a) = absurd p
+mark-off g i n hn (more {s = markStore m w} p a) = absurd p
+mark-off g i n hn (more {s = entryStore m d c} p a) =
+    more {s = entryStore m d c} (λ (e : 1 + n ≡ 1 + g .nodes + 3 * (m * g .items + d) + partOf c). omega arith) (mark-off g i n hn a)
+
+module _ (g : Geometry) (i : ℕ) {ss : List Store} {left left′ : ℕ} {t t′ : List ℕ} (a : All (Before g i) ss) (s : Stored g left ss t t′ left′) where
+  entry-stays : (n b : ℕ) → n < g .nodes → b < g .items → i ≤ b → view g t′ .entry n b ≡ view g t .entry n b
+  entry-stays n b hn hb l =
+      entry-read g t′ n b hn hb
+      ∙ entry-same t t′ (entryAt g n b) word
+      ∙ sym (entry-read g t n b hn hb)
+    where
+      word : (k : ℕ) → k < 3 → getD t′ (entryAt g n b + k) 0 ≡ getD t (entryAt g n b + k) 0
+      word k h = ap (λ u. getD u (entryAt g n b + k) 0) (s .table) ∙ after-off g (entryAt g n b + k) left t (entry-off g i n b k hb l h a)
+
+  mark-stays : (n : ℕ) → n < g .nodes → view g t′ .mark n ≡ view g t .mark n
+  mark-stays n hn =
+      mark-read g t n hn (sym (mark-read g t′ n hn refl) ∙ ap (λ u. getD u (markAt n) 0) (s .table) ∙ after-off g (markAt n) left t (mark-off g i n hn a))
+
+  copy-stays : (lost : Lost) (b : ℕ) → b < g .items → i ≤ b → (n : ℕ) → n < g .nodes → copy (survivors lost (view g t′)) b n ≡ copy (survivors lost (view g t)) b n
+  copy-stays lost b hb l n hn =
+      rw (survivor-marks lost (view g t) (view g t′) n (mark-stays n hn), survivor-entry lost (view g t′), survivor-entry lost (view g t), entry-stays n b hn hb l) refl
+
+-- ---- an item's turn
+
+pub turn-skipped :
+    (g : Geometry) (lost : Lost) {left b tally : ℕ} {t s : List ℕ} → Passable g lost left t s b tally → 1 < holdersBy tally
+    → Turned g lost (partnerStores g b) left t t s s left
+turn-skipped g lost {left} {b} {tally} {t} {s} p h = item-other g lost b (λ z. p .stands z .skip h) (p .ready .counts)
+
+pub turn-single : (g : Geometry) (lost : Lost) {left b tally : ℕ} {t s : List ℕ} → Passable g lost left t s b tally → holdersBy tally ≤ 1 → Single g lost left t b (holderBy tally)
+turn-single g lost p h = record { one = λ z. p .stands z .single h; is = λ z. p .stands z .holder h }
+
+pub turn-ready :
+    (g : Geometry) (lost : Lost) (i : ℕ) {left left₁ tally : ℕ} {t t₁ s s₁ tallies : List ℕ} → Ready g lost left t s → i < g .items
+    → Settles g lost left t tallies → tally ≡ getD tallies i 0
+    → Turned g lost (staged (partnerStores g) i) left t t₁ s s₁ left₁ → Passable g lost left₁ t₁ s₁ i tally
+unfolding holderOf
+turn-ready g lost i {left} {left₁} {tally} {t} {t₁} k h u e r = record {
+  ready = items-ready g lost i r k;
+  there = h;
+  stands = λ z.
+      let o = u .settled (λ q. z (omega (arith, r .stores .rest))) i h in
+      record {
+        skip = λ p q. o .skip (rw e at p) (sym stays ∙ q);
+        single = λ p. stays ∙ o .single (rw e at p);
+        holder = λ p. ap holderBy e ∙ o .holder (rw e at p) ∙ sym holder-stays;
+      };
+}
+  where
+    each : (n : ℕ) → n < g .nodes → copy (survivors lost (view g t₁)) i n ≡ copy (survivors lost (view g t)) i n
+    each = copy-stays g i (before-staged g i i (survivors lost (view g t)) (omega arith) (omega arith)) (r .stores) lost i h (omega arith)
+
+    stays : count (copy (survivors lost (view g t₁)) i) (g .nodes) ≡ count (copy (survivors lost (view g t)) i) (g .nodes)
+    stays = count-ext (g .nodes) _ _ each
+
+    holder-stays : holderOf g (survivors lost (view g t₁)) i ≡ holderOf g (survivors lost (view g t)) i
+    holder-stays = first-ext (g .nodes) _ _ each

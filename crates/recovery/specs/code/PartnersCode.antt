@@ -1,0 +1,70 @@
+-- The partner stage as its code goes: the frames in use are read from the scratch. A law for each way of the code, over what it has read.
+use Prim.Native.Nat.{ℕ, _-_, _≤_, _<_}
+use mathlib.Core.Path.{_≡_}
+use mathlib.Core.Bool.{Bool, true, _&&_}
+use mathlib.Core.List.{List}
+use lib.Dec.{eqb, ltb}
+use lib.ListN.{length, getD, drop}
+use Rattle.counting.specs.First.{first}
+use Rattle.table.specs.declared.geometry.Geometry.{Geometry}
+use Rattle.table.specs.Geometry.{wordsOf}
+use Rattle.table.specs.Words.{invalid}
+use Rattle.table.specs.Stores.{Store, Stored}
+use Rattle.table.specs.View.{View, view, live, current}
+use Rattle.entries.specs.Frames.{setFrames, used}
+use Rattle.homes.specs.Home.{nodeAfter}
+use Rattle.survivors.specs.declared.lost.Lost.{Lost}
+use Rattle.survivors.specs.Survivors.{survivors}
+use Rattle.recovery.specs.code.PartnersCounts.{AgreesTo, Counts}
+
+-- ---- definitions
+
+-- a node that can take the partner of item b's copy, by the scratch
+unfoldable pub takesBy : Geometry → View → List ℕ → ℕ → ℕ → Bool
+takesBy g w s b n = live w n && (eqb (current (w .entry n b)) invalid && ltb (getD s n 0) (setFrames g))
+
+unfoldable pub takesByAfter : Geometry → View → List ℕ → ℕ → ℕ → ℕ → Bool
+takesByAfter g w s b n i = takesBy g w s b (nodeAfter g n i)
+
+-- the partner of node n's copy, by the scratch; n itself if none can take it
+unfoldable pub partnerBy : Geometry → View → List ℕ → ℕ → ℕ → ℕ
+partnerBy g w s b n = nodeAfter g n (first (takesByAfter g w s b n) (g .nodes - 1))
+
+-- what a survivor uses
+pub record UsedBy (g : Geometry) (w : View) (n r : ℕ) : Type 0 where
+  pub is : live w n ≡ true → r ≡ used g w n 0
+
+-- the scratch is filled for the nodes below k; its words from N on are as they were
+pub record Filled (g : Geometry) (w : View) (k : ℕ) (s s′ : List ℕ) : Type 0 where
+  pub agrees : AgreesTo g w s′ k
+  pub rest : drop (g .nodes) s′ ≡ drop (g .nodes) s
+  pub size : length s′ ≡ length s
+
+-- what a part of the stage needs
+pub record Ready (g : Geometry) (lost : Lost) (left : ℕ) (t s : List ℕ) : Type 0 where
+  pub long : wordsOf g ≤ length t
+  pub room : g .nodes ≤ length s
+  pub counts : Counts g lost left t s
+
+-- a part of the stage: its stores, a function of the survivors' view, and the scratch, whose words from N on are as they were
+pub record Turned (g : Geometry) (lost : Lost) (f : View → List Store) (left : ℕ) (t t′ s s′ : List ℕ) (left′ : ℕ) : Type 0 where
+  pub stores : Stored g left (f (survivors lost (view g t))) t t′ left′
+  pub counts : Counts g lost left′ t′ s′
+  pub rest : drop (g .nodes) s′ ≡ drop (g .nodes) s
+  pub size : length s′ ≡ length s
+
+-- ---- the test and the search, by the table and by the scratch
+
+module _ (g : Geometry) (w : View) (s : List ℕ) (b : ℕ) where
+  -- the partner that the code finds, and that its count is far from overflow
+  pub record Found (n p : ℕ) : Type 0 where
+    pub is : p ≡ partnerBy g w s b n
+    pub few : (p ≡ n → ⊥) → getD s p 0 < 65536
+
+-- ---- the frames in use, before the first item
+
+-- the first k words of the scratch are those of u; its words from n on are as they were
+pub record FilledFrom (n k : ℕ) (u s s′ : List ℕ) : Type 0 where
+  pub same : (i : ℕ) → i < k → getD s′ i 0 ≡ getD u i 0
+  pub rest : drop n s′ ≡ drop n s
+  pub size : length s′ ≡ length s

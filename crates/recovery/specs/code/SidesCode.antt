@@ -1,0 +1,14 @@
+-- The ways of the code that looks at a side: a law for each, over what the code has read.
+use Prim.Native.Nat.{ℕ}
+use mathlib.Core.Bool.{Bool}
+use Rattle.counting.specs.declared.values.Values.{Values}
+use Rattle.counting.specs.Values.{valuesOf}
+use Rattle.table.specs.View.{View}
+use Rattle.table.specs.Copies.{copyValue}
+use Rattle.recovery.specs.Sides.{copyOn, hasCopy}
+
+-- ---- the recovery copies of an item
+
+-- those of the nodes below n
+unfoldable pub copiesTo : Bool → View → ℕ → ℕ → Values
+copiesTo forward w b n = valuesOf n (hasCopy forward w b) (λ k. copyValue (copyOn forward (w .entry k b)))

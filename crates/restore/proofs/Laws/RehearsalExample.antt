@@ -1,0 +1,107 @@
+-- A rehearsal worked out: its conditions can be met, and what the plain memory has then saved.
+use Prim.Native.Nat.{ℕ}
+use mathlib.Core.Path.{_≡_, refl}
+use mathlib.Core.Bool.{false}
+use mathlib.Core.List.{List, [], _∷_}
+use native.Mathlib.Omega.{arith}
+use lib.ListN.{replicate}
+use Rattle.survivors.specs.declared.lost.Lost.the-variants.{Node}
+use Rattle.restore.specs.declared.call.Call.the-variants.{Format, Write, Open, Create, Commit}
+use Rattle.restore.specs.Memory.{savedIn}
+use Rattle.restore.specs.Run.{commitsFrom, memoryFrom, Formatted, tableBy}
+use Rattle.restore.specs.Rehearsal.{callBy, callAt, stepsTo, nodeWordAt, putTo, hitNode, hitSized, hitBy, Script, wholeCalls, Demanded}
+use Rattle.restore.specs.Rehearsed.{strike, tooFewLeft}
+use Rattle.restore.proofs.Laws.RehearsalHit.{hit-struck}
+use Rattle.restore.specs.Demand3.{memory}
+use Rattle.counting.specs.Counting.{every, sum, count}
+use Rattle.counting.specs.First.{first, firstOr}
+use Rattle.counting.specs.Values.{valuesOf}
+use Rattle.table.specs.Geometry.{geometryOf}
+use Rattle.table.specs.Changes.{changeOf}
+use Rattle.table.specs.Stores.{runs, after}
+use Rattle.table.specs.View.{view}
+use Rattle.table.specs.MarksPass.{markTo, marksTo}
+use Rattle.table.specs.Copies.{backBy}
+use Rattle.layout.specs.Format.{firstEntries, formatStores, formatMade}
+use Rattle.entries.specs.Frames.{framesIn, framesAt, used, framesFit}
+use Rattle.entries.specs.Items.{itemTest}
+use Rattle.entries.specs.Sound.{marksForm, phasesOf, pointsOf, statesForm, nodeSound, nodesSound, itemSound, itemsSound, sound}
+use Rattle.entries.specs.Check.{lengthOf, sizesOf, soundOf, faultOf}
+use Rattle.homes.specs.Plans.{planAdmitted, planChecked, planBy}
+use Rattle.homes.specs.Admission.{admissionOf, frameFull, frameAdmission}
+use Rattle.homes.specs.Places.{placeBy}
+use Rattle.calls.specs.Transitions.{changeTo}
+use Rattle.entries.specs.Dirty.{ownsAt, ownerOf, dirty, dirtyItem}
+use Rattle.checkpoints.specs.Checkpoint.{commonMark, isOpen, openAdmission, liveChanges, entriesBefore}
+use Rattle.checkpoints.specs.Closing.{commitChange, closeChange}
+use Rattle.homes.specs.Home.{sharedAt, sharedItem, hasRoom, placeFits, fits, nodeAfter, fitsAfter, passedOver, homeOf, droppedItem, currentLeft, arrivalOf, dropStores, arrivalChanges, homeStoresBy, homeStores}
+use Rattle.calls.specs.Read.{servesAt, serverOf, fetchFrom, readStores, readValue}
+use Rattle.calls.specs.Write.{otherChanges, otherStores, ownKeep, keptAfter, ownChanges, writeStores}
+use Rattle.homes.specs.Evict.{sourceStores, movedTo, evictStores, placeAdmission}
+use Rattle.checkpoints.specs.Open.{startAdmission}
+use Rattle.checkpoints.specs.Create.{sharesAt, sharerOf, partnerStores as createdPartner, createItem, noPartner, createPlan}
+use Rattle.checkpoints.specs.Commit.{commitStores, createdAdmission}
+use Rattle.counting.specs.Exists.{exists}
+use Rattle.survivors.specs.Lost.{lostBy}
+use Rattle.survivors.specs.Survivors.{survivorCount, tooFewWith, tooFew}
+use Rattle.recovery.specs.Sides.{copiesOn, itemFits, itemsFit}
+use Rattle.survivors.specs.Direction.{forwardIn}
+use Rattle.recovery.specs.Rolling.{bringBack, settled, rollChange, rollStores}
+use Rattle.recovery.specs.Numbering.{holders, numberAfter, numberChange, numberStores}
+use Rattle.recovery.specs.Partners.{single, holderOf, takes, takesAfter, partnerOf, partnerChanges, partnerFrom, partnerStores, staged, partnersStores}
+use Rattle.survivors.specs.ClosingMarks.{largest, largestNumber, closingStores}
+use Rattle.recovery.specs.Recover.{followed, survivorStores, recoverStores, survivorsFormed, recoverAdmission, recoverChecked, recoverOf}
+use Rattle.restore.specs.Call.{planOf}
+use Rattle.restore.specs.Run.{run}
+
+-- 3 nodes, 1 item, 2 frames
+abbrev pub formattedTable : List ℕ
+formattedTable = tableBy (replicate 13 0) (record { call = Format 3 1 2; scratch = 4 })
+
+-- write node 2 item 0 value 7; open; create
+abbrev pub written : List ℕ
+written = 2 ∷ 2 ∷ 0 ∷ 7 ∷ 0 ∷ 4 ∷ 0 ∷ 0 ∷ 0 ∷ 0 ∷ 5 ∷ 0 ∷ 0 ∷ 0 ∷ 0 ∷ []
+
+-- then a commit, cut after so many stores; node 0 is hit in its mark and two words of its entry; a recovery is broken off after 3 stores
+abbrev pub script : ℕ → Script
+script limit = record {
+  calls = written;
+  call = Commit;
+  limit = limit;
+  lost = Node 0;
+  words = 5 ∷ 6 ∷ 7 ∷ [];
+  limits = 3 ∷ [];
+  scratch = 4;
+}
+
+pub calls-are :
+    wholeCalls formattedTable (script 1)
+    ≡ (record { call = Write 2 0 7; scratch = 4 } ∷ record { call = Open; scratch = 4 } ∷ record { call = Create; scratch = 4 } ∷ [])
+unfolding callBy callAt stepsTo
+calls-are = refl
+
+pub formatted : Formatted formattedTable
+unfolding every sum count first firstOr valuesOf geometryOf changeOf runs after view markTo marksTo backBy firstEntries formatStores formatMade framesIn framesAt used framesFit itemTest marksForm phasesOf pointsOf statesForm nodeSound nodesSound itemSound itemsSound sound lengthOf sizesOf soundOf faultOf planAdmitted planChecked planBy admissionOf frameFull frameAdmission changeTo commonMark isOpen openAdmission ownsAt ownerOf dirty dirtyItem liveChanges entriesBefore commitChange closeChange sharedAt sharedItem hasRoom placeFits fits nodeAfter fitsAfter passedOver homeOf droppedItem currentLeft arrivalOf dropStores arrivalChanges homeStoresBy homeStores servesAt serverOf fetchFrom readStores readValue otherChanges otherStores ownKeep keptAfter ownChanges writeStores sourceStores movedTo evictStores placeAdmission startAdmission sharesAt sharerOf createdPartner createItem noPartner createPlan commitStores createdAdmission exists survivorCount forwardIn copiesOn itemFits itemsFit bringBack settled rollChange rollStores holders numberAfter numberChange numberStores single holderOf takes takesAfter partnerOf partnerChanges partnerFrom partnerStores staged partnersStores largest largestNumber closingStores followed survivorStores recoverStores survivorsFormed tooFewWith tooFew recoverAdmission recoverChecked recoverOf planOf run
+formatted = record { nodes = 3; items = 1; frames = 2; allowed = refl; holds = refl }
+
+pub demanded : Demanded formattedTable (script 1)
+unfolding every sum count first firstOr valuesOf geometryOf changeOf runs after view markTo marksTo backBy firstEntries formatStores formatMade framesIn framesAt used framesFit itemTest marksForm phasesOf pointsOf statesForm nodeSound nodesSound itemSound itemsSound sound lengthOf sizesOf soundOf faultOf planAdmitted planChecked planBy admissionOf frameFull frameAdmission changeTo commonMark isOpen openAdmission ownsAt ownerOf dirty dirtyItem liveChanges entriesBefore commitChange closeChange sharedAt sharedItem hasRoom placeFits fits nodeAfter fitsAfter passedOver homeOf droppedItem currentLeft arrivalOf dropStores arrivalChanges homeStoresBy homeStores servesAt serverOf fetchFrom readStores readValue otherChanges otherStores ownKeep keptAfter ownChanges writeStores sourceStores movedTo evictStores placeAdmission startAdmission sharesAt sharerOf createdPartner createItem noPartner createPlan commitStores createdAdmission exists survivorCount forwardIn copiesOn itemFits itemsFit bringBack settled rollChange rollStores holders numberAfter numberChange numberStores single holderOf takes takesAfter partnerOf partnerChanges partnerFrom partnerStores staged partnersStores largest largestNumber closingStores followed survivorStores recoverStores survivorsFormed tooFewWith tooFew recoverAdmission recoverChecked recoverOf planOf run placeBy lostBy callBy callAt stepsTo
+demanded = record { formatted = formatted; cuttable = refl; one = refl; enough = omega arith }
+
+pub room : tooFewLeft formattedTable (script 1) ≡ false
+unfolding every sum count first firstOr valuesOf geometryOf changeOf runs after view markTo marksTo backBy firstEntries formatStores formatMade framesIn framesAt used framesFit itemTest marksForm phasesOf pointsOf statesForm nodeSound nodesSound itemSound itemsSound sound lengthOf sizesOf soundOf faultOf planAdmitted planChecked planBy admissionOf frameFull frameAdmission changeTo commonMark isOpen openAdmission ownsAt ownerOf dirty dirtyItem liveChanges entriesBefore commitChange closeChange sharedAt sharedItem hasRoom placeFits fits nodeAfter fitsAfter passedOver homeOf droppedItem currentLeft arrivalOf dropStores arrivalChanges homeStoresBy homeStores servesAt serverOf fetchFrom readStores readValue otherChanges otherStores ownKeep keptAfter ownChanges writeStores sourceStores movedTo evictStores placeAdmission startAdmission sharesAt sharerOf createdPartner createItem noPartner createPlan commitStores createdAdmission exists survivorCount forwardIn copiesOn itemFits itemsFit bringBack settled rollChange rollStores holders numberAfter numberChange numberStores single holderOf takes takesAfter partnerOf partnerChanges partnerFrom partnerStores staged partnersStores largest largestNumber closingStores followed survivorStores recoverStores survivorsFormed tooFewWith tooFew recoverAdmission recoverChecked recoverOf planOf run placeBy lostBy callBy callAt stepsTo nodeWordAt putTo hitNode hitSized hitBy
+room = refl
+
+-- "that commit cut after 1 store: lost node 0 gives 0"
+pub saved-before : savedIn (memory formattedTable formatted (wholeCalls formattedTable (script 1)) (strike formattedTable (script 1) demanded (hit-struck formattedTable (script 1) demanded))) 0 ≡ 0
+unfolding every sum count first firstOr valuesOf geometryOf changeOf runs after view markTo marksTo backBy firstEntries formatStores formatMade framesIn framesAt used framesFit itemTest marksForm phasesOf pointsOf statesForm nodeSound nodesSound itemSound itemsSound sound lengthOf sizesOf soundOf faultOf planAdmitted planChecked planBy admissionOf frameFull frameAdmission changeTo commonMark isOpen openAdmission ownsAt ownerOf dirty dirtyItem liveChanges entriesBefore commitChange closeChange sharedAt sharedItem hasRoom placeFits fits nodeAfter fitsAfter passedOver homeOf droppedItem currentLeft arrivalOf dropStores arrivalChanges homeStoresBy homeStores servesAt serverOf fetchFrom readStores readValue otherChanges otherStores ownKeep keptAfter ownChanges writeStores sourceStores movedTo evictStores placeAdmission startAdmission sharesAt sharerOf createdPartner createItem noPartner createPlan commitStores createdAdmission exists survivorCount forwardIn copiesOn itemFits itemsFit bringBack settled rollChange rollStores holders numberAfter numberChange numberStores single holderOf takes takesAfter partnerOf partnerChanges partnerFrom partnerStores staged partnersStores largest largestNumber closingStores followed survivorStores recoverStores survivorsFormed tooFewWith tooFew recoverAdmission recoverChecked recoverOf planOf run formatted placeBy lostBy callBy callAt stepsTo commitsFrom memoryFrom
+saved-before = refl
+
+pub demanded-later : Demanded formattedTable (script 2)
+unfolding every sum count first firstOr valuesOf geometryOf changeOf runs after view markTo marksTo backBy firstEntries formatStores formatMade framesIn framesAt used framesFit itemTest marksForm phasesOf pointsOf statesForm nodeSound nodesSound itemSound itemsSound sound lengthOf sizesOf soundOf faultOf planAdmitted planChecked planBy admissionOf frameFull frameAdmission changeTo commonMark isOpen openAdmission ownsAt ownerOf dirty dirtyItem liveChanges entriesBefore commitChange closeChange sharedAt sharedItem hasRoom placeFits fits nodeAfter fitsAfter passedOver homeOf droppedItem currentLeft arrivalOf dropStores arrivalChanges homeStoresBy homeStores servesAt serverOf fetchFrom readStores readValue otherChanges otherStores ownKeep keptAfter ownChanges writeStores sourceStores movedTo evictStores placeAdmission startAdmission sharesAt sharerOf createdPartner createItem noPartner createPlan commitStores createdAdmission exists survivorCount forwardIn copiesOn itemFits itemsFit bringBack settled rollChange rollStores holders numberAfter numberChange numberStores single holderOf takes takesAfter partnerOf partnerChanges partnerFrom partnerStores staged partnersStores largest largestNumber closingStores followed survivorStores recoverStores survivorsFormed tooFewWith tooFew recoverAdmission recoverChecked recoverOf planOf run placeBy lostBy callBy callAt stepsTo
+demanded-later = record { formatted = formatted; cuttable = refl; one = refl; enough = omega arith }
+
+-- "cut after 2 stores: lost node 0 gives 7"
+pub saved-after : savedIn (memory formattedTable formatted (wholeCalls formattedTable (script 2)) (strike formattedTable (script 2) demanded-later (hit-struck formattedTable (script 2) demanded-later))) 0 ≡ 7
+unfolding every sum count first firstOr valuesOf geometryOf changeOf runs after view markTo marksTo backBy firstEntries formatStores formatMade framesIn framesAt used framesFit itemTest marksForm phasesOf pointsOf statesForm nodeSound nodesSound itemSound itemsSound sound lengthOf sizesOf soundOf faultOf planAdmitted planChecked planBy admissionOf frameFull frameAdmission changeTo commonMark isOpen openAdmission ownsAt ownerOf dirty dirtyItem liveChanges entriesBefore commitChange closeChange sharedAt sharedItem hasRoom placeFits fits nodeAfter fitsAfter passedOver homeOf droppedItem currentLeft arrivalOf dropStores arrivalChanges homeStoresBy homeStores servesAt serverOf fetchFrom readStores readValue otherChanges otherStores ownKeep keptAfter ownChanges writeStores sourceStores movedTo evictStores placeAdmission startAdmission sharesAt sharerOf createdPartner createItem noPartner createPlan commitStores createdAdmission exists survivorCount forwardIn copiesOn itemFits itemsFit bringBack settled rollChange rollStores holders numberAfter numberChange numberStores single holderOf takes takesAfter partnerOf partnerChanges partnerFrom partnerStores staged partnersStores largest largestNumber closingStores followed survivorStores recoverStores survivorsFormed tooFewWith tooFew recoverAdmission recoverChecked recoverOf planOf run formatted placeBy lostBy callBy callAt stepsTo commitsFrom memoryFrom
+saved-after = refl

@@ -1,0 +1,35 @@
+-- The laws of `specs/Answers.antt`.
+use Prim.Native.Nat.{ℕ, _-_, min}
+use mathlib.Core.Path.{_≡_, refl, sym, ap}
+use mathlib.Core.List.{List, []}
+use native.Mathlib.Omega.{arith}
+use lib.ListN.{length}
+use Rattle.table.specs.declared.geometry.Geometry.{Geometry}
+use Rattle.table.specs.declared.answers.Refusal.{Refusal}
+use Rattle.table.specs.declared.answers.Answer.{Answer}
+use Rattle.table.specs.declared.answers.Answer.the-variants.{Done, Refused}
+use Rattle.table.specs.Stores.{Store, Stored}
+use Rattle.table.proofs.Laws.Stores.{after-none}
+use Rattle.table.specs.Answers.{refusalNumber, numbersOf, Plan, refuse, carry, Meets, Told}
+
+pub meets-refused : {p : Plan} {x : Refusal} (limit : ℕ) (t : List ℕ) → p ≡ refuse x → Meets p limit t t (Refused x)
+meets-refused limit t h = rw h (record { answer = refl; numbers = refl; table = refl })
+
+pub meets-done :
+    {p : Plan} {g : Geometry} {v left : ℕ} {ss : List Store} (limit : ℕ) {t t′ : List ℕ} → p ≡ carry g v ss → Stored g limit ss t t′ left
+    → Meets p limit t t′ (Done v (limit - left))
+meets-done {v = v} {left} {ss} limit h s =
+    let e : limit - left ≡ min limit (length ss) = omega arith in
+    rw h (record { answer = ap (Done v) e; numbers = ap (λ k. numbersOf (Done v k)) e; table = s .table })
+
+-- the numbers of a refusal whose own number is n
+pub numbers-refused :
+    {a : Answer} {x : Refusal} {n : ℕ} → a ≡ Refused x → n ≡ refusalNumber x
+    → record { answer = n; value = 0; stores = 0 } ≡ numbersOf a
+numbers-refused h k = rw (h, k) refl
+
+pub told-refused : {p : Plan} {x : Refusal} (t : List ℕ) → p ≡ refuse x → Told p t (Refused x)
+told-refused t h = record { meets = λ limit. meets-refused limit t h }
+
+pub told-yes : {p : Plan} {g : Geometry} (t : List ℕ) → p ≡ carry g 0 [] → Told p t (Done 0 0)
+told-yes t h = record { meets = λ limit. rw h (record { answer = ap (Done 0) (omega arith); numbers = ap (λ k. numbersOf (Done 0 k)) (omega arith); table = sym (after-none _ limit t) }) }
