@@ -45,9 +45,7 @@ spanBy n (refuse x) = Refused x
 spanBy n nothingLeft = Entries 0 0
 spanBy n (carry g value ss) = Entries (entryAt g n 0) (entryAt g n 0 + entryWords * g .items)
 
--- ---- the ways of the code
-
--- what code finds of a node's entries
+-- where code finds a node's entries
 pub record Spanned (t : List ℕ) (n : ℕ) (r : Span) : Type 0 where
   pub is : r ≡ spanBy n (stretchOf t n)
   pub within : (start end : ℕ) → r ≡ Entries start end → (start ≤ end) × (end ≤ length t)

@@ -1,4 +1,4 @@
--- Recover as its code goes: what it admits, and a law for each way out.
+-- THE CONTRACT of Recover.
 use Prim.Native.Nat.{ℕ}
 use mathlib.Core.Path.{_≡_}
 use mathlib.Core.List.{List}

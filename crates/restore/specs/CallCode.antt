@@ -1,4 +1,4 @@
--- The contract of the one function that carries any call out, and a law for each call.
+-- THE CONTRACT of the one function that carries any call out.
 use Prim.Native.Nat.{ℕ}
 use mathlib.Core.Path.{_≡_}
 use mathlib.Core.List.{List}

@@ -1,4 +1,4 @@
--- Document 01's examples marked P, in one table, and one proof that the definitions give it.
+-- Document 01's examples marked P, in one table.
 use Prim.Native.Nat.{ℕ}
 use mathlib.Core.Path.{_≡_}
 use mathlib.Core.Bool.{cond}
@@ -160,7 +160,7 @@ examples =
     ∷ call (narrow (step (Write 2 0 7) ∷ step Open ∷ [])) (step Create) 11 0 0
     ∷ []
 
--- ---- the proof, by computation
+-- ---- what is proved of the table
 
 -- each row is as it is written
 unfoldable pub Given : List Row → Type 0

@@ -1,4 +1,4 @@
--- Beside `specs/ClosingCode.antt`: what only the contracts of private functions cite.
+-- What the stores of Open, Commit and Abandon rest on: live marks agree.
 use Prim.Native.Nat.{ℕ, _≤_, _<_}
 use mathlib.Core.Path.{_≡_}
 use mathlib.Core.Bool.{true}

@@ -1,4 +1,4 @@
--- The ways of Create's code: a law for each, over what the code has read.
+-- What the functions of Create promise: the plan of one item, and its stores.
 use Prim.Native.Nat.{ℕ}
 use mathlib.Core.Bool.{cond}
 use mathlib.Core.List.{List, [], _∷_}

@@ -1,4 +1,4 @@
--- Beside `specs/Counting.antt`: what only the contracts of private functions cite.
+-- What a function promises that counts a test.
 use mathlib.Core.Path.{_≡_}
 use mathlib.Core.Bool.{Bool}
 use Prim.Native.Nat.{ℕ, _≤_}

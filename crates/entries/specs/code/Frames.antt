@@ -1,4 +1,4 @@
--- Beside `specs/Frames.antt`: what only the contracts of private functions cite.
+-- What tells of a free frame without counting.
 use Prim.Native.Nat.{ℕ, _*_}
 use mathlib.Core.Bool.{Bool, _&&_}
 use lib.Dec.{leb, ltb}

@@ -1,4 +1,4 @@
--- The ways of Evict's code: a law for each, over what the code has read.
+-- What the functions of Evict promise: which way a copy leaves.
 use Prim.Native.Nat.{ℕ}
 use mathlib.Core.Bool.{Bool, cond}
 use Rattle.table.specs.declared.geometry.Geometry.{Geometry}

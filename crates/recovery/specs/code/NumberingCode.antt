@@ -1,4 +1,4 @@
--- The ways of the code that numbers the copies: a law for each, over what the code has read.
+-- What the functions that number the copies promise.
 use Prim.Native.Nat.{ℕ, _+_, _-_, _≤_, _<_}
 use mathlib.Core.Path.{_≡_}
 use mathlib.Core.Bool.{true, cond}

@@ -1,4 +1,4 @@
--- The partner stage as its code goes: the frames in use are read from the scratch. A law for each way of the code, over what it has read.
+-- What the functions of the partner stage promise. The frames in use are read from the scratch.
 use Prim.Native.Nat.{ℕ, _-_, _≤_, _<_}
 use mathlib.Core.Path.{_≡_}
 use mathlib.Core.Bool.{Bool, true, _&&_}

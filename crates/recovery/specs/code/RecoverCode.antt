@@ -1,4 +1,4 @@
--- Beside `specs/RecoverCode.antt`: what only the contracts of private functions cite.
+-- What the functions of Recover ask and promise, stage by stage.
 use Prim.Native.Nat.{ℕ, _≤_, _<_}
 use mathlib.Core.Path.{_≡_}
 use mathlib.Core.Bool.{Bool, false}

@@ -1,4 +1,4 @@
--- The ways of the code that looks at a side: a law for each, over what the code has read.
+-- The recovery copies of an item on a side, node by node.
 use Prim.Native.Nat.{ℕ}
 use mathlib.Core.Bool.{Bool}
 use Rattle.counting.specs.declared.values.Values.{Values}

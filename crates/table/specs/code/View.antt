@@ -1,4 +1,4 @@
--- Beside `specs/View.antt`: what only the contracts of private functions cite.
+-- What the readers of an entry promise.
 use Prim.Native.Nat.{ℕ, _+_}
 use mathlib.Core.Bool.{cond}
 use mathlib.Core.List.{List}
