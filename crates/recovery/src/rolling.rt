@@ -13,6 +13,8 @@ ghost use Rattle.recovery.specs.code.RollingCode.{cleared, RollListed, R
 use crate::rows;
 use survivors::lost::Lost;
 use survivors::nodes;
+use table::changes;
+use table::changes::Event;
 use table::geometry::Geometry;
 use table::stores;
 use table::words;
@@ -70,17 +72,14 @@ fn bring_back(table: &mut [u64], left: u64, g: Geometry, node: u8, item: u16, st
     stores::store_state(table, left, g, node, item, code, words::INVALID)
 }
 
-// What a current place becomes as it rolls: a digit for each code.
+// What a current place becomes as it rolls.
 fn rolled(current: u8, forward: bool) -> u8
     ensures { λ r. ⌜ r ≡ changeOf current (sideEvent forward) ⌝ }
 {
-    let at = (current % 8) as usize;
-    let on = b"00004545";
-    let back = b"00004500";
     if forward {
-        return on[at] % 16;
+        return changes::change(current, Event::RollForward);
     }
-    back[at] % 16
+    changes::change(current, Event::RollBack)
 }
 
 // An entry as it rolls.
@@ -130,7 +129,7 @@ fn roll_listed(
     left
 }
 
-// The turn of one node: no survivor is passed over.
+// The turn of one node: one that is no survivor is passed over.
 fn roll_node(
     table: &mut [u64],
     left: u64,

@@ -1,8 +1,9 @@
 // The state table: what the current place of a copy becomes, by event.
 ghost use mathlib.Core.Path.{_≡_};
-ghost use mathlib.Core.List.{[], _∷_};
+ghost use mathlib.Core.List.{[]};
+ghost use Prim.Native.Nat.{_%_};
 ghost use lib.ListN.{getD};
-ghost use Rattle.table.specs.Changes.{changeOf, columnOf, checkpointOf};
+ghost use Rattle.table.specs.Changes.{changes, changeOf, columnOf, checkpointOf};
 
 pub enum Event {
     OtherReads,
@@ -19,34 +20,63 @@ pub const KEEP: u8 = 8;
 // The event never meets this state.
 pub const NEVER: u8 = 9;
 
-// The column of an event in a row of the table.
-fn column(event: Event, reads: u8, writes: u8, commit: u8, abandon: u8, back: u8, forward: u8) -> u8
-    ensures { λ r. ⌜ r ≡ getD (reads ∷ writes ∷ commit ∷ abandon ∷ back ∷ forward ∷ []) (columnOf event) 0 ⌝ }
+// The state table: a row per state code, a column per event.
+pub const CHANGES: [[u8; 6]; 8] = [
+    // other reads, other writes, commit, abandon, roll back, roll forward
+    // Invalid
+    [0, 0, 0, 0, 0, 0],
+    // Shared
+    [1, 0, 1, 1, 0, 0],
+    // Owner
+    [2, 0, NEVER, 2, 0, 0],
+    // Modified
+    [2, 0, NEVER, 3, 0, 0],
+    // Shared-CK1
+    [4, KEEP, 4, 4, 4, 4],
+    // Shared-CK2
+    [5, KEEP, 5, 5, 5, 5],
+    // Precommit1
+    [NEVER, NEVER, 4, 2, 0, 4],
+    // Precommit2
+    [NEVER, NEVER, 5, 1, 0, 5],
+];
+
+// The row of a state code, by indices that are constants: one that varies makes the compiler build the whole table anew.
+fn row(state: u8) -> [u8; 6]
+    ensures { λ r. ⌜ r ≡ getD changes (state % 8) [] ⌝ }
 {
-    match event {
-        Event::OtherReads => reads,
-        Event::OtherWrites => writes,
-        Event::Commit => commit,
-        Event::Abandon => abandon,
-        Event::RollBack => back,
-        Event::RollForward => forward,
+    match state % 8 {
+        0 => CHANGES[0],
+        1 => CHANGES[1],
+        2 => CHANGES[2],
+        3 => CHANGES[3],
+        4 => CHANGES[4],
+        5 => CHANGES[5],
+        6 => CHANGES[6],
+        _ => CHANGES[7],
     }
 }
 
-// What a current place becomes by an event: a row per state code, a column per event.
+// The column of an event in a row.
+fn column(row: [u8; 6], event: Event) -> u8
+    ensures { λ r. ⌜ r ≡ getD row (columnOf event) 0 ⌝ }
+{
+    match event {
+        Event::OtherReads => row[0],
+        Event::OtherWrites => row[1],
+        Event::Commit => row[2],
+        Event::Abandon => row[3],
+        Event::RollBack => row[4],
+        Event::RollForward => row[5],
+    }
+}
+
+// What a current place becomes by an event.
 pub fn change(state: u8, event: Event) -> u8
     ensures { λ r. ⌜ r ≡ changeOf state event ⌝ }
 {
-    match state % 8 {
-        0 => column(event, 0, 0, 0, 0, 0, 0),
-        1 => column(event, 1, 0, 1, 1, 0, 0),
-        2 => column(event, 2, 0, NEVER, 2, 0, 0),
-        3 => column(event, 2, 0, NEVER, 3, 0, 0),
-        4 => column(event, 4, KEEP, 4, 4, 4, 4),
-        5 => column(event, 5, KEEP, 5, 5, 5, 5),
-        6 => column(event, NEVER, NEVER, 4, 2, 0, 4),
-        _ => column(event, NEVER, NEVER, 5, 1, 0, 5),
-    }
+    let row = row(state);
+    column(row, event)
 }
 
 // The number of a Shared-CK copy, or 0.

@@ -12,7 +12,8 @@ use Rattle.counting.proofs.Laws.Counting.{every-at}
 use Rattle.table.specs.declared.geometry.Geometry.{Geometry}
 use Rattle.table.specs.Geometry.{wordsOf, entryWords, Placed}
 use Rattle.table.specs.Words.{invalid, currentOf, keptOf}
-use Rattle.table.specs.Changes.{changes, changeOf}
+use Rattle.table.specs.declared.changes.Event.the-variants.{RollBack, RollForward}
+use Rattle.table.specs.Changes.{changeOf}
 use Rattle.table.specs.Stores.{Store, Change, Stored, StoredIn, entryStore, stateTo, valueTo, runs}
 use Rattle.table.proofs.Laws.Stores.{runs-ext, stored-none, stored-three, stored-as, loop-starts, loop-turns}
 use Rattle.table.specs.View.{Entry, View, view, current, kept}
@@ -51,20 +52,12 @@ module _ (e : Entry) {w c k : ℕ} (z : w ≡ e .state) (p : c ≡ currentOf w) 
     unfolding rollChange
     roll-settles h b = rw (← z, ← p, ← q, h, b) refl
 
--- what a current place becomes as it rolls: digits from '0', which is 48
-abbrev onDigits : List ℕ
-onDigits = 48 ∷ 48 ∷ 48 ∷ 48 ∷ 52 ∷ 53 ∷ 52 ∷ 53 ∷ []
+-- the event of a side
+pub rolled-on : (c : ℕ) {forward : Bool} {r : ℕ} → forward ≡ true → r ≡ changeOf c RollForward → r ≡ changeOf c (sideEvent forward)
+rolled-on c e q = rw e q
 
-abbrev backDigits : List ℕ
-backDigits = 48 ∷ 48 ∷ 48 ∷ 48 ∷ 52 ∷ 53 ∷ 48 ∷ 48 ∷ []
-
-pub rolled-on : (c : ℕ) {forward : Bool} → forward ≡ true → getD onDigits (c % 8) 0 % 16 ≡ changeOf c (sideEvent forward)
-unfolding changeOf every
-rolled-on c e = rw e (eqb-true _ _ (every-at 8 (λ i. eqb (getD onDigits i 0 % 16) (getD (getD changes i []) 5 0)) refl (c % 8) (omega arith)))
-
-pub rolled-back : (c : ℕ) {forward : Bool} → forward ≡ false → getD backDigits (c % 8) 0 % 16 ≡ changeOf c (sideEvent forward)
-unfolding changeOf every
-rolled-back c e = rw e (eqb-true _ _ (every-at 8 (λ i. eqb (getD backDigits i 0 % 16) (getD (getD changes i []) 4 0)) refl (c % 8) (omega arith)))
+pub rolled-back : (c : ℕ) {forward : Bool} {r : ℕ} → forward ≡ false → r ≡ changeOf c RollBack → r ≡ changeOf c (sideEvent forward)
+rolled-back c e q = rw e q
 
 pub clear-stays : (c k : ℕ) → c ≡ invalid → cleared c k ≡ []
 clear-stays c k h = rw (eq-eqb c invalid h) refl

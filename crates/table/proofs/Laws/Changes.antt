@@ -13,11 +13,17 @@ use Rattle.table.specs.Words.{sharedCK1, sharedCK2}
 use Rattle.table.specs.Changes.{changes, columnOf, changeOf, checkpointOf}
 
 -- a row of it
-pub change-row :
-    (state k : ℕ) (event : Event) {row : List ℕ} {r : ℕ} → state % 8 ≡ k → getD changes k [] ≡ row → r ≡ getD row (columnOf event) 0
-    → r ≡ changeOf state event
+pub row-at : (state k : ℕ) {row : List ℕ} → state % 8 ≡ k → getD changes k [] ≡ row → row ≡ getD changes (state % 8) []
+row-at state k h e = sym e ∙ ap (λ i. getD changes i []) (sym h)
+
+-- a column of a row
+pub column-at : {event told : Event} (row : List ℕ) → event ≡ told → getD row (columnOf told) 0 ≡ getD row (columnOf event) 0
+column-at row h = ap (λ e. getD row (columnOf e) 0) (sym h)
+
+pub change-at :
+    (state : ℕ) (event : Event) {row : List ℕ} {r : ℕ} → row ≡ getD changes (state % 8) [] → r ≡ getD row (columnOf event) 0 → r ≡ changeOf state event
 unfolding changeOf
-change-row state k event h e q = q ∙ ap (λ l. getD l (columnOf event) 0) (sym e ∙ ap (λ i. getD changes i []) (sym h))
+change-at state event h q = q ∙ ap (λ l. getD l (columnOf event) 0) h
 
 -- the codes below Shared-CK have none
 pub checkpoint-none : (c : ℕ) → c < 4 → checkpointOf c ≡ 0
