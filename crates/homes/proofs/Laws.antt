@@ -4,6 +4,7 @@ pub mod Plans
 pub mod Places
 pub mod HomeCode
 pub mod HomeLaws
+pub mod Holders
 pub mod EvictCode
 pub mod Kept
 pub mod Safe
