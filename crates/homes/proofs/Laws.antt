@@ -28,3 +28,4 @@ pub mod EvictLeaves
 pub mod EvictKind
 pub mod EvictSound
 pub mod EvictServes
+pub mod Unread
