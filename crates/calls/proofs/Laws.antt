@@ -16,3 +16,4 @@ pub mod ReadKind
 pub mod ReadSound
 pub mod WriteServes
 pub mod ReadServes
+pub mod Unread

@@ -3,7 +3,7 @@ ghost use mathlib.Core.Path.{_≡_};
 ghost use Rattle.table.specs.Stores.{Stored};
 ghost use Rattle.table.specs.View.{view};
 ghost use Rattle.table.specs.Answers.{carry, Meets};
-ghost use Rattle.calls.specs.Read.{serves, servesAt, serverOf, fetchFrom, readStores, readValue, readAdmission, readOf};
+ghost use Rattle.calls.specs.Read.{fetchFrom, readStores, readValue, readAdmission, readOf};
 use entries::check::Checked;
 use homes::admission::Admission;
 use table::answers::Answer;
@@ -11,7 +11,9 @@ use table::answers::Refusal;
 use table::changes::Event;
 use table::geometry::Geometry;
 use table::words::INVALID;
+use table::words::OWNER;
 use table::words::SHARED;
+use table::words::SHARED_CK1;
 
 // The refusals after the table checks, in their order.
 fn admit_read(table: &[u64], g: Geometry, node: u64, item: u64) -> Admission
@@ -33,42 +35,6 @@ fn admit_read(table: &[u64], g: Geometry, node: u64, item: u64) -> Admission
     }
 }
 
-// Whether a current place serves other nodes: Shared-CK1, Owner, Modified.
-fn serves_others(current: u8) -> bool
-    ensures { λ r. ⌜ r ≡ serves current ⌝ }
-{
-    (current == 4) | ((current == 2) | (current == 3))
-}
-
-// Whether a node serves an item; of a dead one nothing but its mark is read.
-fn serves_at(table: &[u64], g: Geometry, item: u16, node: u8) -> bool
-    ensures { λ r. ⌜ r ≡ servesAt (view g (now (table .entry))) item node ⌝ }
-{
-    let mark = table::stores::mark_at(table, g, node);
-    if mark == 0 {
-        return false;
-    }
-    let state = table::stores::state_at(table, g, node, item);
-    let current = table::words::current_of(state);
-    serves_others(current)
-}
-
-// The first live node that serves an item, or N if there is none.
-fn server_of(table: &[u64], g: Geometry, item: u16) -> u8
-    ensures { λ r. ⌜ r ≡ serverOf g (view g (now (table .entry))) item ⌝ }
-{
-    let nodes = g.nodes;
-    let mut node: u8 = 0;
-    while node < nodes {
-        let found = serves_at(table, g, item, node);
-        if found {
-            return node;
-        }
-        node += 1;
-    }
-    node
-}
-
 // The server's change, then the reader's value, state Shared. The reader's kept place is read before the first store.
 fn fetch(
     table: &mut [u64],
@@ -88,7 +54,7 @@ fn fetch(
     table::stores::store_state(table, left, g, node, item, SHARED, kept)
 }
 
-// An admitted read: the node's own copy, or one fetched from the server.
+// An admitted read: the node's own copy, or one fetched from the server. Owner, Modified and Shared-CK1, which serve, are codes 2 to 4.
 fn read_admitted(table: &mut [u64], g: Geometry, node: u8, item: u16, limit: u64) -> Answer
     ensures { λ r. ⌜ Meets (carry g (readValue g (view g (now (table .entry))) node item) (readStores g (view g (now (table .entry))) node item)) limit (now (table .entry)) (now (table .exit)) r ⌝ }
 {
@@ -98,7 +64,7 @@ fn read_admitted(table: &mut [u64], g: Geometry, node: u8, item: u16, limit: u64
         let value = table::stores::value_at(table, g, node, item);
         return Answer::Done { value, stores: 0 };
     }
-    let server = server_of(table, g, item);
+    let server = homes::holders::first_holder(table, g, item, OWNER, SHARED_CK1);
     let value = table::stores::value_at(table, g, server, item);
     let left = fetch(table, limit, g, node, item, server, value);
     let stores = limit - left;

@@ -33,3 +33,4 @@ pub mod CommitServes
 pub mod OpenServes
 pub mod AbandonServes
 pub mod CreateServes
+pub mod Unread

@@ -4,7 +4,6 @@ pub mod Closing
 pub mod Open
 pub mod Commit
 pub mod Abandon
-pub mod ClosingCode
 pub mod Create
 pub mod Forward
 pub mod code

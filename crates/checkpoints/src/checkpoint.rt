@@ -7,11 +7,10 @@ ghost use Rattle.table.specs.Stores.{Stored, StoredIn};
 ghost use Rattle.table.specs.View.{view};
 ghost use Rattle.table.specs.MarksPass.{markTo};
 ghost use Rattle.table.specs.Pass.{pass};
-ghost use Rattle.entries.specs.Dirty.{ownsAt, ownerOf};
 ghost use Rattle.checkpoints.specs.Checkpoint.{commonMark, openAdmission, liveChanges, entriesTo};
 ghost use Rattle.checkpoints.specs.code.Checkpoint.{Lies};
 ghost use Rattle.checkpoints.specs.Closing.{commitChange, abandonChange, closeChange};
-ghost use Rattle.checkpoints.specs.ClosingCode.{MarksStored};
+ghost use Rattle.checkpoints.specs.code.ClosingCode.{MarksStored};
 use homes::admission::Admission;
 use table::answers::Refusal;
 use table::changes::Event;
@@ -53,31 +52,6 @@ pub fn admit_open(table: &[u64], g: Geometry) -> Admission
     Admission::Turned(Refusal::NoCheckpoint)
 }
 
-// Whether a live node has an item as Owner or Modified.
-fn owns_at(table: &[u64], g: Geometry, item: u16, node: u8) -> bool
-    ensures { λ r. ⌜ r ≡ ownsAt (view g (now (table .entry))) item node ⌝ }
-{
-    let mark = stores::mark_at(table, g, node);
-    let current = words::current_of(stores::state_at(table, g, node, item));
-    (mark != 0) & ((current == words::OWNER) | (current == words::MODIFIED))
-}
-
-// The node that owns an item, or the number of nodes if none does.
-pub fn owner_of(table: &[u64], g: Geometry, item: u16) -> u8
-    ensures { λ r. ⌜ r ≡ ownerOf g (view g (now (table .entry))) item ⌝ }
-{
-    let nodes = g.nodes;
-    let mut node: u8 = 0;
-    while node < nodes {
-        let owns = owns_at(table, g, item, node);
-        if owns {
-            return node;
-        }
-        node += 1;
-    }
-    nodes
-}
-
 // The turn of one mark: a live node's becomes the word.
 fn mark_to(table: &mut [u64], left: u64, g: Geometry, node: u8, word: u64) -> u64
     ensures { λ r. ⌜ Stored g left (markTo (view g (now (table .entry))) (λ w. word) node) (now (table .entry)) (now (table .exit)) r ⌝ }
@@ -90,7 +64,7 @@ fn mark_to(table: &mut [u64], left: u64, g: Geometry, node: u8, word: u64) -> u6
 }
 
 // Each live mark, ascending, becomes the word, in a table that has all its words.
-pub fn marks_to(table: &mut [u64], left: u64, g: Geometry, word: u64) -> u64
+pub(crate) fn marks_to(table: &mut [u64], left: u64, g: Geometry, word: u64) -> u64
     ensures { λ r. ⌜ MarksStored g left word (now (table .entry)) (now (table .exit)) r ⌝ }
 {
     let nodes = g.nodes;

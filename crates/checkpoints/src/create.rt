@@ -5,7 +5,7 @@ ghost use Rattle.table.specs.Stores.{Stored};
 ghost use Rattle.table.specs.View.{view};
 ghost use Rattle.table.specs.Answers.{Meets};
 ghost use Rattle.entries.specs.Dirty.{ownerOf, dirtyItem};
-ghost use Rattle.checkpoints.specs.Create.{sharesAt, sharerOf, createPlan, createOf};
+ghost use Rattle.checkpoints.specs.Create.{createPlan, createOf};
 ghost use Rattle.checkpoints.specs.code.CreateCode.{itemPlan, sharerStores, takenStores};
 use entries::check::Surveyed;
 use homes::admission::Admission;
@@ -15,31 +15,6 @@ use table::answers::Refusal;
 use table::geometry::Geometry;
 use table::stores;
 use table::words;
-
-// Whether a live node has a Shared copy of an item.
-fn shares_at(table: &[u64], g: Geometry, item: u16, node: u8) -> bool
-    ensures { λ r. ⌜ r ≡ sharesAt (view g (now (table .entry))) item node ⌝ }
-{
-    let mark = stores::mark_at(table, g, node);
-    let current = words::current_of(stores::state_at(table, g, node, item));
-    (mark != 0) & (current == words::SHARED)
-}
-
-// The lowest-numbered node with a Shared copy of an item, or the number of nodes if none has one.
-fn sharer_of(table: &[u64], g: Geometry, item: u16) -> u8
-    ensures { λ r. ⌜ r ≡ sharerOf g (view g (now (table .entry))) item ⌝ }
-{
-    let nodes = g.nodes;
-    let mut node: u8 = 0;
-    while node < nodes {
-        let shares = shares_at(table, g, item, node);
-        if shares {
-            return node;
-        }
-        node += 1;
-    }
-    nodes
-}
 
 // The owner turns Precommit1, the sharer Precommit2. Both kept places are read before the first store.
 fn turn_sharer(table: &mut [u64], left: u64, g: Geometry, item: u16, owner: u8, sharer: u8) -> u64
@@ -81,8 +56,8 @@ fn create_item(table: &mut [u64], limit: u64, g: Geometry, item: u16) -> Answer
     requires { ⌜ ownerOf g (view g (now table)) item < g .nodes ⌝ }
     ensures { λ r. ⌜ Meets (itemPlan g (view g (now (table .entry))) item) limit (now (table .entry)) (now (table .exit)) r ⌝ }
 {
-    let owner = crate::checkpoint::owner_of(table, g, item);
-    let sharer = sharer_of(table, g, item);
+    let owner = homes::holders::first_holder(table, g, item, words::OWNER, words::MODIFIED);
+    let sharer = homes::holders::first_holder(table, g, item, words::SHARED, words::SHARED);
     let nodes = g.nodes;
     if sharer < nodes {
         let left = turn_sharer(table, limit, g, item, owner, sharer);

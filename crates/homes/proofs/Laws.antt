@@ -4,6 +4,7 @@ pub mod Plans
 pub mod Places
 pub mod HomeCode
 pub mod HomeLaws
+pub mod Holders
 pub mod EvictCode
 pub mod Kept
 pub mod Safe
@@ -27,3 +28,4 @@ pub mod EvictLeaves
 pub mod EvictKind
 pub mod EvictSound
 pub mod EvictServes
+pub mod Unread

@@ -54,6 +54,10 @@ passedOver g v place n b = first (fitsAfter g v place n b) (g .nodes - 1)
 unfoldable pub homeOf : Geometry → View → Place → ℕ → ℕ → ℕ
 homeOf g v place n b = nodeAfter g n (passedOver g v place n b)
 
+-- from any number: one that is no node's has no home, which is the number itself
+unfoldable pub homeFrom : Geometry → View → Place → ℕ → ℕ → ℕ
+homeFrom g v place n b = cond (ltb n (g .nodes)) (homeOf g v place n b) n
+
 -- "11 no home"
 abbrev pub noHome : Geometry → View → Place → ℕ → ℕ → Bool
 noHome g v place n b = eqb (homeOf g v place n b) n

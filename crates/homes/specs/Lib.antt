@@ -3,6 +3,6 @@ pub mod Admission
 pub mod Plans
 pub mod Places
 pub mod Home
-pub mod HomeCode
+pub mod Holders
 pub mod Evict
 pub mod code

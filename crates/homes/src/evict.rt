@@ -5,7 +5,6 @@ ghost use Prim.Native.Nat.{_<_};
 ghost use Rattle.table.specs.Stores.{Stored};
 ghost use Rattle.table.specs.View.{view};
 ghost use Rattle.table.specs.Answers.{Meets};
-ghost use Rattle.homes.specs.Home.{arrivalOf};
 ghost use Rattle.homes.specs.Evict.{sourceStores, movedTo, evictOf};
 ghost use Rattle.homes.specs.code.EvictCode.{wayOf, wayAdmitted};
 use crate::admission::Admission;

@@ -3,8 +3,7 @@ ghost use mathlib.Core.Path.{_≡_};
 ghost use Prim.Native.Nat.{_<_};
 ghost use Rattle.table.specs.Stores.{Stored, StoredIn};
 ghost use Rattle.table.specs.View.{view};
-ghost use Rattle.homes.specs.Home.{sharedItem, hasRoom, placeFits, fits, droppedItem, currentLeft, arrivalOf, dropStores, arrivalChanges, homeStoresBy};
-ghost use Rattle.homes.specs.HomeCode.{HomeFound};
+ghost use Rattle.homes.specs.Home.{sharedItem, hasRoom, placeFits, fits, homeFrom, droppedItem, currentLeft, arrivalOf, dropStores, arrivalChanges, homeStoresBy};
 ghost use Rattle.homes.specs.code.HomeCode.{nextNode};
 use crate::places::Place;
 use table::geometry::Geometry;
@@ -91,7 +90,7 @@ fn next_node(nodes: u8, n: u8) -> u8
 
 // The first live node after `node`, cyclically, that can take the copy; `node` itself if there is none, or if it is no node of the table.
 pub fn home_of(table: &[u64], g: Geometry, place: Place, node: u8, item: u16) -> u8
-    ensures { λ r. ⌜ HomeFound g (view g (now (table .entry))) place node item r ⌝ }
+    ensures { λ r. ⌜ r ≡ homeFrom g (view g (now (table .entry))) place node item ⌝ }
 {
     let nodes = g.nodes;
     if nodes <= node {

@@ -41,3 +41,4 @@ pub mod RecoverTheorem
 pub mod DeadName
 pub mod AnyTable
 pub mod PairsCode
+pub mod Unread

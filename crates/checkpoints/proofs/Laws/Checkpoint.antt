@@ -1,10 +1,9 @@
 -- The laws of `specs/Checkpoint.antt`.
 use Prim.Native.Nat.{ℕ, zero, suc, _+_, _/_, _%_, _<_, _≤_}
 use mathlib.Core.Path.{_≡_, refl, sym, ap, ap₂, _∙_}
-use mathlib.Core.Bool.{not, _&&_}
+use mathlib.Core.Bool.{not}
 use mathlib.Core.List.{List, [], _++_, map}
 use native.Mathlib.Omega.{arith}
-use lib.Dec.{eqb}
 use lib.ListN.{length, getD}
 use borrow.Author.Tests.{eq-eqb, ne-eqb, lt-ltb}
 use Rattle.counting.proofs.Laws.Tests.{and-both}
@@ -17,11 +16,10 @@ use Rattle.table.proofs.Laws.Geometry.{entry-within}
 use Rattle.table.specs.Words.{phaseOf}
 use Rattle.table.specs.Stores.{Change, entryStore, Stored, StoredIn, runs}
 use Rattle.table.proofs.Laws.Stores.{runs-ext, stored-as, stored-none}
-use Rattle.table.specs.View.{Entry, View, view, current, live}
+use Rattle.table.specs.View.{Entry, View, view, live}
 use Rattle.table.proofs.Laws.View.{mark-none, entry-word, state-read}
 use Rattle.table.specs.Pass.{pass}
 use Rattle.table.proofs.Laws.PassTurns.{Local, items-turn, nodes-turn, nodes-start}
-use Rattle.entries.specs.Dirty.{owns, ownsAt}
 use Rattle.homes.specs.declared.admission.Admission.the-variants.{Admitted, Turned}
 use Rattle.checkpoints.specs.Checkpoint.{commonMark, isOpen, openAdmission, liveChanges, entriesBefore, entriesTo}
 use Rattle.checkpoints.specs.code.Checkpoint.{Lies}
@@ -110,12 +108,6 @@ module _ (g : Geometry) (change : Entry → List Change) {left left₁ : ℕ} {t
 pub entries-start : (g : Geometry) (v : View) (change : Entry → List Change) (left : ℕ) (t : List ℕ) → Stored g left (entriesBefore g v change 0) t t left
 unfolding entriesBefore
 entries-start g v change left t = nodes-start g (λ k. liveChanges change v (k / g .items) (k % g .items)) left t
-
--- an owner
-pub owns-here :
-    (v : View) (b k : ℕ) {mark c : ℕ} → mark ≡ v .mark k → c ≡ current (v .entry k b) → (not (eqb mark 0) && owns c) ≡ ownsAt v b k
-unfolding ownsAt
-owns-here v b k h e = rw (h, e) refl
 
 -- "8 no checkpoint open"
 module _ (g : Geometry) (v : View) {mark phase : ℕ} (h : mark ≡ commonMark g v) (e : phase ≡ phaseOf mark) where

@@ -1,4 +1,4 @@
--- The laws of `specs/ClosingCode.antt`.
+-- The laws of `specs/code/ClosingCode.antt`.
 use Prim.Native.Nat.{ℕ, _+_, _*_, _/_, _%_, _^_, _≤_, _<_}
 use mathlib.Core.Path.{_≡_, sym, ap, ap₂, _∙_}
 use mathlib.Core.Bool.{not, cond}
@@ -29,8 +29,7 @@ use Rattle.checkpoints.specs.Closing.{closeChange}
 use Rattle.checkpoints.specs.Open.{creatingMark, openStores}
 use Rattle.checkpoints.specs.Commit.{committingMark, committedMark, commitStores}
 use Rattle.checkpoints.specs.Abandon.{runningMark, abandonStores}
-use Rattle.checkpoints.specs.ClosingCode.{MarksStored}
-use Rattle.checkpoints.specs.code.ClosingCode.{Agreed}
+use Rattle.checkpoints.specs.code.ClosingCode.{Agreed, MarksStored}
 
 -- ---- live marks agree
 

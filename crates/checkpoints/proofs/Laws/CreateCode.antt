@@ -1,35 +1,44 @@
 -- The laws of `specs/code/CreateCode.antt`.
 use Prim.Native.Nat.{ℕ, _<_, _≤_}
 use mathlib.Core.Path.{_≡_, refl, ap, _∙_}
-use mathlib.Core.Bool.{not, _&&_}
+use mathlib.Core.Bool.{_&&_}
 use mathlib.Core.List.{List, [], _∷_}
 use native.Mathlib.Omega.{arith}
-use lib.Dec.{eqb}
-use borrow.Author.Tests.{eq-eqb, ne-eqb, lt-ltb, le-ltb, ltb-true}
+use lib.Dec.{eqb, leb}
+use borrow.Author.Tests.{eq-eqb, ne-eqb, eqb-true, lt-ltb, le-ltb, ltb-true, le-leb, leb-true}
+use Rattle.counting.proofs.Laws.Tests.{both, and-both, bool-iff}
 use Rattle.counting.specs.First.{first}
 use Rattle.counting.proofs.Laws.First.{first-passes}
 use Rattle.table.specs.declared.geometry.Geometry.{Geometry}
 use Rattle.table.specs.declared.answers.Refusal.the-variants.{NoHome}
-use Rattle.table.specs.Words.{keptOf, shared, precommit1, precommit2}
+use Rattle.table.specs.Words.{keptOf, shared, owner, modified, precommit1, precommit2}
 use Rattle.table.specs.Stores.{Stored, entryStore, stateTo}
 use Rattle.table.proofs.Laws.Stores.{stored-then, stored-two}
-use Rattle.table.specs.View.{View, view, current}
+use Rattle.table.specs.View.{View, view}
 use Rattle.table.specs.declared.answers.Answer.{Answer}
 use Rattle.table.specs.Answers.{refuse, nothingLeft, carry, Meets}
 use Rattle.homes.proofs.Laws.Plans.{meets-as}
 use Rattle.homes.specs.declared.places.Place.the-variants.{Current}
 use Rattle.homes.specs.declared.home.Arrival.{Arrival}
 use Rattle.entries.specs.Dirty.{ownerOf, dirty, dirtyItem}
-use Rattle.homes.specs.Home.{homeOf, arrivalOf, homeStores, homeStoresBy}
+use Rattle.homes.specs.Home.{homeOf, homeFrom, arrivalOf, homeStores, homeStoresBy}
+use Rattle.homes.proofs.Laws.HomeCode.{home-there}
+use Rattle.homes.specs.Holders.{firstHolder}
+use Rattle.homes.proofs.Laws.Holders.{holder-first, owner-held}
 use Rattle.checkpoints.specs.Create.{sharesAt, sharerOf, partnerStores, createItem, noPartner, createPlan}
 use Rattle.checkpoints.specs.code.CreateCode.{itemPlan, sharerStores, takenStores}
 
 -- ---- a sharer
 
-pub shares-here :
-    (v : View) (b k : ℕ) {mark c : ℕ} → mark ≡ v .mark k → c ≡ current (v .entry k b) → (not (eqb mark 0) && eqb c shared) ≡ sharesAt v b k
-unfolding sharesAt
-shares-here v b k h e = rw (h, e) refl
+sharer-codes : (c : ℕ) → (leb shared c && leb c shared) ≡ eqb c shared
+sharer-codes c =
+    bool-iff (leb shared c && leb c shared) (eqb c shared)
+    (λ h. let l = both (leb shared c) h in eq-eqb c shared (omega (arith, leb-true shared c (l .0), leb-true c shared (l .1))))
+    (λ h. let q = eqb-true c shared h in and-both (le-leb shared c (omega arith)) (le-leb c shared (omega arith)))
+
+pub sharer-held : (g : Geometry) (v : View) (b : ℕ) → firstHolder g v b shared shared ≡ sharerOf g v b
+unfolding sharerOf sharesAt
+sharer-held g v b = holder-first g v b shared shared (λ c. eqb c shared) sharer-codes
 
 -- ---- the item to be created
 
@@ -73,12 +82,22 @@ module _ (g : Geometry) (b o : ℕ) {w k left left₁ left₂ : ℕ} {t t₁ t�
 
 -- ---- its plan
 
-module _ (g : Geometry) (v : View) (b : ℕ) {o s : ℕ} (p : o ≡ ownerOf g v b) (q : s ≡ sharerOf g v b) where
+module _ (g : Geometry) (v : View) (b : ℕ) (owned : ownerOf g v b < g .nodes) {o s : ℕ} (held : o ≡ firstHolder g v b owner modified)
+    (shares : s ≡ firstHolder g v b shared shared) where
+  p : o ≡ ownerOf g v b
+  p = held ∙ owner-held g v b
+
+  q : s ≡ sharerOf g v b
+  q = shares ∙ sharer-held g v b
+
   pub item-shared : s < g .nodes → itemPlan g v b ≡ carry g 0 (sharerStores v b o s)
   unfolding itemPlan noPartner createItem partnerStores sharerStores
   item-shared l = rw (← p, ← q, lt-ltb s (g .nodes) l) refl
 
-  module _ (l : g .nodes ≤ s) {h : ℕ} (r : h ≡ homeOf g v Current o b) where
+  module _ (l : g .nodes ≤ s) {h : ℕ} (found : h ≡ homeFrom g v Current o b) where
+    r : h ≡ homeOf g v Current o b
+    r = found ∙ home-there g v Current o b (rw p owned)
+
     pub item-none : h ≡ o → itemPlan g v b ≡ refuse NoHome
     unfolding itemPlan noPartner
     item-none e = rw (← p, ← q, le-ltb s (g .nodes) l, ← r, eq-eqb h o e) refl

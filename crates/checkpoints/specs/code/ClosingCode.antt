@@ -1,4 +1,4 @@
--- What the stores of Open, Commit and Abandon rest on: live marks agree.
+-- What the stores of Open, Commit and Abandon rest on: live marks agree, so one word is stored on each of them.
 use Prim.Native.Nat.{ℕ, _≤_, _<_}
 use mathlib.Core.Path.{_≡_}
 use mathlib.Core.Bool.{true}
@@ -6,7 +6,9 @@ use mathlib.Core.List.{List}
 use lib.ListN.{length}
 use Rattle.table.specs.declared.geometry.Geometry.{Geometry}
 use Rattle.table.specs.Geometry.{wordsOf}
+use Rattle.table.specs.Stores.{Stored}
 use Rattle.table.specs.View.{view, live}
+use Rattle.table.specs.MarksPass.{marksTo}
 use Rattle.checkpoints.specs.Checkpoint.{commonMark}
 
 -- ---- live marks agree
@@ -15,3 +17,10 @@ use Rattle.checkpoints.specs.Checkpoint.{commonMark}
 pub record Agreed (g : Geometry) (t : List ℕ) : Type 0 where
   pub long : wordsOf g ≤ length t
   pub same : (n : ℕ) → n < g .nodes → live (view g t) n ≡ true → view g t .mark n ≡ commonMark g (view g t)
+
+-- ---- the marks that are stored: one word
+
+-- what the code that stores a word on every live mark makes of a table, if that has all its words
+pub record MarksStored (g : Geometry) (left word : ℕ) (t t₁ : List ℕ) (left₁ : ℕ) : Type 0 where
+  pub size : length t₁ ≡ length t
+  pub stored : wordsOf g ≤ length t → Stored g left (marksTo g (view g t) (λ w. word)) t t₁ left₁

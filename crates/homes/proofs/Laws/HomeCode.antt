@@ -1,4 +1,4 @@
--- The laws of `specs/HomeCode.antt`.
+-- The ways of the code that looks for a home and stores there: a law for each, over what the code has read.
 use Prim.Native.Nat.{ℕ, _+_, _-_, _≤_, _<_}
 use mathlib.Core.Path.{_≡_, refl, sym, ap, _∙_}
 use mathlib.Core.Bool.{Bool, true, false, cond, _&&_, _||_}
@@ -20,8 +20,7 @@ use Rattle.homes.specs.declared.places.Place.{Place}
 use Rattle.homes.specs.declared.places.Place.the-variants.{Current, Kept}
 use Rattle.homes.specs.declared.home.Arrival.{Arrival}
 use Rattle.homes.specs.Places.{codeOf, sharedIn}
-use Rattle.homes.specs.Home.{sharedAt, sharedItem, hasRoom, placeFits, fits, nodeAfter, fitsAfter, passedOver, homeOf, droppedItem, currentLeft, arrivalOf, dropStores, arrivalChanges, takeoverStores, homeStoresBy}
-use Rattle.homes.specs.HomeCode.{HomeFound}
+use Rattle.homes.specs.Home.{sharedAt, sharedItem, hasRoom, placeFits, fits, nodeAfter, fitsAfter, passedOver, homeOf, homeFrom, droppedItem, currentLeft, arrivalOf, dropStores, arrivalChanges, takeoverStores, homeStoresBy}
 use Rattle.homes.specs.code.HomeCode.{nextNode}
 
 -- ---- the lowest Shared copy
@@ -146,25 +145,35 @@ module _ (g : Geometry) (n : ℕ) where
 
 -- ---- the search
 
-pub home-outside : (g : Geometry) (v : View) (place : Place) (n b : ℕ) {r : ℕ} → g .nodes ≤ n → HomeFound g v place n b r
-home-outside g v place n b h = record { is = λ l. absurd (omega arith) }
+module _ (g : Geometry) (v : View) (place : Place) (n b : ℕ) where
+  pub home-outside : g .nodes ≤ n → n ≡ homeFrom g v place n b
+  unfolding homeFrom
+  home-outside h = rw (le-ltb n (g .nodes) h) refl
 
-module _ (g : Geometry) (v : View) (place : Place) (n b i : ℕ) (none : first (fitsAfter g v place n b) i ≡ i) {h : ℕ} (p : h ≡ nodeAfter g n i) where
+  -- of a node of the table
+  pub home-there : n < g .nodes → homeFrom g v place n b ≡ homeOf g v place n b
+  unfolding homeFrom
+  home-there h = rw (lt-ltb n (g .nodes) h) refl
+
+module _ (g : Geometry) (v : View) (place : Place) (n b i : ℕ) (there : n < g .nodes) (none : first (fitsAfter g v place n b) i ≡ i) {h : ℕ} (p : h ≡ nodeAfter g n i) where
   module _ {found : Bool} (q : found ≡ fits g v place b h) where
     test : {r : Bool} → found ≡ r → fitsAfter g v place n b i ≡ r
     unfolding fitsAfter
     test e = sym (q ∙ ap (fits g v place b) p) ∙ e
 
-    pub home-found : i < g .nodes - 1 → found ≡ true → HomeFound g v place n b h
+    pub home-found : i < g .nodes - 1 → found ≡ true → h ≡ homeFrom g v place n b
     unfolding homeOf passedOver
-    home-found l e = record { is = λ _. p ∙ ap (nodeAfter g n) (sym (first-found (fitsAfter g v place n b) i (g .nodes - 1) none (test e) l)) }
+    home-found l e =
+        p ∙ ap (nodeAfter g n) (sym (first-found (fitsAfter g v place n b) i (g .nodes - 1) none (test e) l)) ∙ sym (home-there g v place n b there)
 
     pub home-on : found ≡ false → first (fitsAfter g v place n b) (i + 1) ≡ i + 1
     home-on e = first-turns (fitsAfter g v place n b) i none (test e)
 
-  pub home-ends : i ≤ g .nodes - 1 → g .nodes - 1 ≤ i → HomeFound g v place n b h
+  pub home-ends : i ≤ g .nodes - 1 → g .nodes - 1 ≤ i → h ≡ homeFrom g v place n b
   unfolding homeOf passedOver
-  home-ends k l = let e : i ≡ g .nodes - 1 = omega arith in record { is = λ _. p ∙ ap (nodeAfter g n) (e ∙ sym (rw e at none)) }
+  home-ends k l =
+      let e : i ≡ g .nodes - 1 = omega arith in
+      p ∙ ap (nodeAfter g n) (e ∙ sym (rw e at none)) ∙ sym (home-there g v place n b there)
 
 -- ---- what a home makes of a copy that comes
 

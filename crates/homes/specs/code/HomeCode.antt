@@ -1,4 +1,4 @@
--- Beside `specs/HomeCode.antt`: what only the contracts of private functions cite.
+-- Beside `specs/Home.antt`: what only the contracts of private functions cite.
 use Prim.Native.Nat.{ℕ, _+_}
 use mathlib.Core.Bool.{cond}
 use lib.Dec.{eqb}

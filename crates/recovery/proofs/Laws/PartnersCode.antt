@@ -285,7 +285,7 @@ entered-partner g b w hb = go (eqb (count (copy w b) (g .nodes)) 1) refl
     go true e = stores (holderOf g w b) (holder-there g w b (eqb-true _ 1 e))
     go false e = none
 
-entered-staged : (g : Geometry) (i : ℕ) (w : View) → i ≤ g .items → All (Entered g) (staged (partnerStores g) i w)
+pub entered-staged : (g : Geometry) (i : ℕ) (w : View) → i ≤ g .items → All (Entered g) (staged (partnerStores g) i w)
 unfolding staged
 entered-staged g zero w h = none
 entered-staged g (suc i) w h =

@@ -18,4 +18,4 @@ read-admitted-spec =
     (λ c κs. search needs)
     (λ c. search needs)
     (λ c. search needs)
-    (λ c. let f = c .before .before in let x = f .before .before in let s = x .before .before in let i = s .before .before in let u = i .before in read-fetched _ _ _ _ (u .before .state-at .ensures) (u .current-of .ensures) (i .if1 .left) (s .server-of .ensures) (x .value-at2 .ensures) (f .fetch .ensures)))
+    (λ c. let f = c .before .before in let x = f .before .before in let s = x .before .before in let i = s .before .before in let u = i .before in read-fetched _ _ _ _ (u .before .state-at .ensures) (u .current-of .ensures) (i .if1 .left) (s .first-holder .ensures) (x .value-at2 .ensures) (f .fetch .ensures)))

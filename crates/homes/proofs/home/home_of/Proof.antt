@@ -26,8 +26,9 @@ loop-holds c = (search needs, (c .next-node .ensures ∙ after-starts _ _ (c .be
 returns-2 : tie.Need-returns-2 Inv-loop μ-loop
 returns-2 c =
     let l = c .before .before in
-    let i = l .before .loop .inv .1 in
-    home-found _ _ _ _ _ _ (i .1) (i .0) (c .before .can-take .ensures) (l .loop-test .taken) (c .if2 .taken)
+    let o = l .before in
+    let i = o .loop .inv .1 in
+    home-found _ _ _ _ _ _ (o .before .before .if1 .left) (i .1) (i .0) (c .before .can-take .ensures) (l .loop-test .taken) (c .if2 .taken)
 
 next-node-requires-2 : tie.Need-next-node-requires-2 Inv-loop μ-loop
 next-node-requires-2 c κs =
@@ -40,12 +41,12 @@ loop-again c =
     let l = c .before .before .before in
     let o = l .before in
     let i = o .loop .inv .1 in
-    (search needs, (search-steps _ _ (o .before .before .if1 .left) (l .loop-test .taken) (i .0) (c .next-node2 .ensures), home-on _ _ _ _ _ _ (i .1) (i .0) (c .before .before .can-take .ensures) (c .before .if2 .left)))
+    (search needs, (search-steps _ _ (o .before .before .if1 .left) (l .loop-test .taken) (i .0) (c .next-node2 .ensures), home-on _ _ _ _ _ _ (o .before .before .if1 .left) (i .1) (i .0) (c .before .before .can-take .ensures) (c .before .if2 .left)))
 
 returns-3 : tie.Need-returns-3 Inv-loop μ-loop
 returns-3 c =
     let i = c .before .loop .inv in
-    home-ends _ _ _ _ _ _ (i .1 .1) (i .1 .0) (i .0) (c .loop-test .left)
+    home-ends _ _ _ _ _ _ (c .before .before .before .if1 .left) (i .1 .1) (i .1 .0) (i .0) (c .loop-test .left)
 
 pub home-of-spec : {M : Type 1} → statement M
 home-of-spec =
