@@ -27,6 +27,8 @@ pub mod NeverForTable
 pub mod Demand2Theorem
 pub mod RunPoints
 pub mod Demand3Theorem
+-- ---- what no call reads
+pub mod UnreadTheorem
 -- ---- no list is as long as 2^16
 pub mod Lengths
 pub mod CallLengths

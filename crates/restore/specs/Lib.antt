@@ -9,6 +9,8 @@ pub mod OneItem
 pub mod History
 pub mod Demand2
 pub mod Demand3
+-- ---- what no call reads
+pub mod Unread
 pub mod Rehearsal
 pub mod Rehearsed
 -- ---- the ways of the code

@@ -62,9 +62,13 @@ abbrev pub liveOrNone : View → Lost → Bool
 liveOrNone v Nobody = true
 liveOrNone v (Node n) = live v n
 
--- word i of a table is the node's mark or one of its entries' words
+-- word i of a table is one of the words of the node's entries
+abbrev pub ofEntries : Geometry → ℕ → ℕ → Bool
+ofEntries g n i = leb (entryAt g n 0) i && ltb i (entryAt g (n + 1) 0)
+
+-- or its mark
 abbrev pub ofNode : Geometry → ℕ → ℕ → Bool
-ofNode g n i = eqb i (markAt n) || (leb (entryAt g n 0) i && ltb i (entryAt g (n + 1) 0))
+ofNode g n i = eqb i (markAt n) || ofEntries g n i
 
 abbrev pub ofLost : Geometry → Lost → ℕ → Bool
 ofLost g Nobody i = false

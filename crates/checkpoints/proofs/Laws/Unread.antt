@@ -97,8 +97,13 @@ module _ (g : Geometry) (v : View) (e : ℕ → ℕ → Entry) (s : Agrees g v e
   create-item : (b o : ℕ) → o < g .nodes → live v o ≡ true → createItem g (over v e) b o ≡ createItem g v b o
   unfolding createItem partnerStores
   create-item b o there t =
-      rw (s .alive o b t, same-sharer b, same-shares b, same-home g v e s Current o b,
-      same-home-stores g v e s (homeOf g v Current o b) (home-live g v Current o b there t) Current b precommit2 (v .entry o b .value)) refl
+      rw (
+        s .alive o b t,
+        same-sharer b,
+        same-shares b,
+        same-home g v e s Current o b,
+        same-home-stores g v e s (homeOf g v Current o b) (home-live g v Current o b there t) Current b precommit2 (v .entry o b .value),
+      ) refl
 
   same-create : createPlan g (over v e) ≡ createPlan g v
   unfolding createPlan

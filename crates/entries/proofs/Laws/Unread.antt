@@ -56,9 +56,9 @@ module _ (g : Geometry) (v : View) (e : ℕ → ℕ → Entry) (s : Agrees g v e
 
   pub same-found : (f : ℕ → Bool) → ((n : ℕ) → f n ≡ true → live v n ≡ true) → (b : ℕ) → e (first f (g .nodes)) b ≡ v .entry (first f (g .nodes)) b
   same-found f h b = elim (decLt (first f (g .nodes)) (g .nodes)) [
-      | yes l ↦ s .alive (first f (g .nodes)) b (h _ (first-passes f (g .nodes) l))
-      | no l ↦ s .outside (first f (g .nodes)) b (omega arith)
-    ]
+    | yes l ↦ s .alive (first f (g .nodes)) b (h _ (first-passes f (g .nodes) l))
+    | no l ↦ s .outside (first f (g .nodes)) b (omega arith)
+  ]
 
   -- ---- what is counted of an item
 

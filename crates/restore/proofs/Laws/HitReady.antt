@@ -62,10 +62,10 @@ same-view g t t′ h = λ i. record {
 }
 
 module _ (g : Geometry) (lost : ℕ) (inside : lost < g .nodes) where
-  mark-of-other : (n : ℕ) → n < g .nodes → n ≢ lost → ofNode g lost (markAt n) ≡ false
+  pub mark-of-other : (n : ℕ) → n < g .nodes → n ≢ lost → ofNode g lost (markAt n) ≡ false
   mark-of-other n h d = rw (ne-eqb (markAt n) (markAt lost) (λ e. d (omega arith)), lt-leb (entryAt g lost 0) (markAt n) (omega arith)) refl
 
-  entry-of-other : (n b i : ℕ) → b < g .items → n ≢ lost → i < 3 → ofNode g lost (entryAt g n b + i) ≡ false
+  pub entry-of-other : (n b i : ℕ) → b < g .items → n ≢ lost → i < 3 → ofNode g lost (entryAt g n b + i) ≡ false
   entry-of-other n b i hb d hi = rw (ne-eqb (entryAt g n b + i) (markAt lost) (λ e. omega arith)) (elim (decLt n lost) [
     | yes l ↦ (let k = digits-lt l hb in rw (lt-leb (entryAt g lost 0) (entryAt g n b + i) (omega arith)) refl)
     | no l ↦ (let k : (lost + 1) * g .items ≤ n * g .items = mul-le-mul-right (g .items) (omega arith) in
