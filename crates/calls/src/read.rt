@@ -11,7 +11,10 @@ use table::answers::Refusal;
 use table::changes::Event;
 use table::geometry::Geometry;
 use table::words::INVALID;
+use table::words::MODIFIED;
+use table::words::OWNER;
 use table::words::SHARED;
+use table::words::SHARED_CK1;
 
 // The refusals after the table checks, in their order.
 fn admit_read(table: &[u64], g: Geometry, node: u64, item: u64) -> Admission
@@ -37,7 +40,7 @@ fn admit_read(table: &[u64], g: Geometry, node: u64, item: u64) -> Admission
 fn serves_others(current: u8) -> bool
     ensures { λ r. ⌜ r ≡ serves current ⌝ }
 {
-    (current == 4) | ((current == 2) | (current == 3))
+    (current == SHARED_CK1) | ((current == OWNER) | (current == MODIFIED))
 }
 
 // Whether a node serves an item; of a dead one nothing but its mark is read.

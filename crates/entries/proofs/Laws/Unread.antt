@@ -3,7 +3,7 @@ use mathlib.Core.Path.{_≡_, refl, ap, ap₂, _∙_, fun-ext}
 use mathlib.Core.Bool.{Bool, true, false, not, _&&_, _||_}
 use Prim.Native.Nat.{ℕ, _<_}
 use lib.Dec.{leb, eqb}
-use Rattle.counting.specs.declared.values.Values.{Values}
+use Rattle.counting.specs.Values.{Values}
 use Rattle.counting.proofs.Laws.Tests.{both, and-same}
 use Rattle.counting.specs.Counting.{count}
 use Rattle.counting.proofs.Laws.Counting.{every-ext, sum-ext, count-ext}

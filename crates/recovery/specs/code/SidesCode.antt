@@ -1,8 +1,7 @@
 -- The ways of the code that looks at a side: a law for each, over what the code has read.
 use Prim.Native.Nat.{ℕ}
 use mathlib.Core.Bool.{Bool}
-use Rattle.counting.specs.declared.values.Values.{Values}
-use Rattle.counting.specs.Values.{valuesOf}
+use Rattle.counting.specs.Values.{Values, valuesOf}
 use Rattle.table.specs.View.{View}
 use Rattle.table.specs.Copies.{copyValue}
 use Rattle.recovery.specs.Sides.{copyOn, hasCopy}
