@@ -13,13 +13,16 @@ use table::answers::Answer;
 use table::answers::Refusal;
 use table::changes::Event;
 use table::geometry::Geometry;
+use table::words::INVALID;
 use table::words::MODIFIED;
+use table::words::SHARED_CK1;
+use table::words::SHARED_CK2;
 
 // Whether a write at an entry takes a frame more.
 fn needs_frame(current: u8) -> bool
     ensures { λ r. ⌜ r ≡ needsFrame current ⌝ }
 {
-    (current == 0) | ((current == 4) | (current == 5))
+    (current == INVALID) | ((current == SHARED_CK1) | (current == SHARED_CK2))
 }
 
 // The refusals after the table checks, in their order.

@@ -1,8 +1,13 @@
--- Values that should be equal, met one by one: whether there was one, the first, and whether all equal it.
+-- Values that should be equal, met one by one.
 use mathlib.Core.Bool.{Bool, true, false, cond, _&&_}
 use Prim.Native.Nat.{ℕ, zero, suc}
 use lib.Dec.{eqb}
-use Rattle.counting.specs.declared.values.Values.{Values}
+
+-- whether there was one, the first, and whether all equal it
+pub record Values : Type 0 where
+  pub seen : Bool
+  pub first : ℕ
+  pub equal : Bool
 
 -- one value more
 abbrev pub metOf : Values → ℕ → Values

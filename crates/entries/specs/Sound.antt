@@ -3,9 +3,8 @@
 use mathlib.Core.Bool.{Bool, not, _&&_, _||_}
 use Prim.Native.Nat.{ℕ, _-_, _^_}
 use lib.Dec.{ltb, eqb}
-use Rattle.counting.specs.declared.values.Values.{Values}
 use Rattle.counting.specs.Counting.{every}
-use Rattle.counting.specs.Values.{valuesOf}
+use Rattle.counting.specs.Values.{Values, valuesOf}
 use Rattle.table.specs.declared.geometry.Geometry.{Geometry}
 use Rattle.table.specs.Words.{stateForm, markForm, phaseOf, numberOf}
 use Rattle.table.specs.View.{View, live}

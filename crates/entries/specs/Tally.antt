@@ -4,8 +4,7 @@ use Prim.Native.Nat.{ℕ}
 use lib.Dec.{eqb}
 use Rattle.table.specs.View.{View, live, current, kept}
 use Rattle.counting.specs.Counting.{count}
-use Rattle.counting.specs.Values.{valuesOf}
-use Rattle.counting.specs.declared.values.Values.{Values}
+use Rattle.counting.specs.Values.{Values, valuesOf}
 
 pub record Counts : Type 0 where
   pub current : ℕ → ℕ

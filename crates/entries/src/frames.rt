@@ -7,6 +7,7 @@ ghost use Rattle.entries.specs.code.Frames.{ampleFor};
 ghost use Rattle.entries.specs.code.RowFrames.{frameDigits, fourFrames, rowFrames};
 ghost use Rattle.table.specs.View.{view};
 use table::geometry::Geometry;
+use table::words::INVALID;
 
 // How many sets a node's frames are.
 pub fn sets(g: Geometry) -> u8
@@ -173,7 +174,7 @@ pub fn frame_free(table: &[u64], g: Geometry, node: u8, item: u16) -> bool
     let state = table::stores::state_at(table, g, node, item);
     let current = table::words::current_of(state);
     let kept = table::words::kept_of(state);
-    let told = ample & ((current == 0) | (kept == 0));
+    let told = ample & ((current == INVALID) | (kept == INVALID));
     if told {
         return true;
     }

@@ -1,3 +1,4 @@
 -- The calls on a table as a whole: Format, Check and Stretch.
 pub mod Format
 pub mod Stretch
+pub mod code

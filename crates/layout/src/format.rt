@@ -4,6 +4,7 @@ ghost use Prim.Native.Nat.{_<_, _≤_};
 ghost use Rattle.table.specs.Stores.{Stored, entryStore, runs};
 ghost use Rattle.table.specs.Answers.{Meets};
 ghost use Rattle.layout.specs.Format.{firstEntry, firstMark, firstEntries, formatStores, formatOf};
+use crate::rows;
 use table::answers::Answer;
 use table::answers::Refusal;
 use table::geometry::Geometry;
@@ -18,7 +19,7 @@ fn format_node(table: &mut [u64], left: u64, g: Geometry, node: u8) -> u64
     ensures { λ r. ⌜ Stored g left (runs (λ b. map (entryStore node b) (firstEntry g node b)) (g .items)) (now (table .entry)) (now (table .exit)) r ⌝ }
 {
     let around = g.nodes - 2;
-    stores::store_row(
+    rows::store_row(
         table,
         left,
         g,

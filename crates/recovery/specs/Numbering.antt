@@ -6,13 +6,13 @@ use mathlib.Core.List.{List, []}
 use lib.Dec.{eqb}
 use Rattle.counting.specs.Counting.{count}
 use Rattle.table.specs.declared.geometry.Geometry.{Geometry}
-use Rattle.table.specs.Words.{invalid}
+use Rattle.table.specs.Words.{invalid, sharedCK}
 use Rattle.table.specs.Changes.{checkpointOf}
 use Rattle.table.specs.Stores.{Store, Change}
 use Rattle.table.specs.View.{View, live, current}
 use Rattle.table.specs.Pass.{pass}
 use Rattle.entries.specs.Tally.{has}
-use Rattle.recovery.specs.Rolling.{sharedCK, settled}
+use Rattle.recovery.specs.Rolling.{settled}
 
 -- how many live nodes below n hold item b as the Shared-CK of this number
 unfoldable pub holders : View → ℕ → ℕ → ℕ → ℕ

@@ -7,14 +7,13 @@ use lib.Dec.{eqb}
 use Rattle.counting.specs.Counting.{count}
 use Rattle.counting.specs.First.{first}
 use Rattle.table.specs.declared.geometry.Geometry.{Geometry}
-use Rattle.table.specs.Words.{invalid}
+use Rattle.table.specs.Words.{invalid, sharedCK}
 use Rattle.table.specs.Changes.{checkpointOf}
 use Rattle.table.specs.Stores.{Store, Change, entryStore, valueTo, stateTo}
 use Rattle.table.specs.View.{Entry, View, live, current, updates}
 use Rattle.entries.specs.Tally.{copy}
 use Rattle.entries.specs.Frames.{frameFree}
 use Rattle.homes.specs.Home.{nodeAfter}
-use Rattle.recovery.specs.Rolling.{sharedCK}
 
 -- item b has one copy, and its holder
 unfoldable pub single : Geometry → View → ℕ → Bool

@@ -1,21 +1,17 @@
 -- "Roll forward .., else roll back, by node, then item. Rolling back an Inv-CK: state with current Invalid if it was not; current value; state. Other
 -- entries: one state store where it changes."
-use Prim.Native.Nat.{ℕ, _+_}
+use Prim.Native.Nat.{ℕ}
 use mathlib.Core.Bool.{Bool, not, cond, _&&_}
 use mathlib.Core.List.{List, [], _∷_, _++_}
 use lib.Dec.{eqb}
 use Rattle.table.specs.declared.geometry.Geometry.{Geometry}
-use Rattle.table.specs.Words.{invalid}
+use Rattle.table.specs.Words.{invalid, sharedCK}
 use Rattle.table.specs.Changes.{changeOf}
 use Rattle.table.specs.Stores.{Store, Change, stateTo, valueTo}
 use Rattle.table.specs.View.{Entry, View, current, kept}
 use Rattle.checkpoints.specs.Checkpoint.{entriesTo}
 use Rattle.recovery.specs.Sides.{sideEvent}
 use Rattle.survivors.specs.Direction.{forwardIn}
-
--- the Shared-CK of a number
-abbrev pub sharedCK : ℕ → ℕ
-sharedCK number = 3 + number
 
 -- "Rolling back an Inv-CK: state with current Invalid if it was not; current value; state."
 unfoldable pub bringBack : Entry → List Change

@@ -2,9 +2,8 @@
 use Prim.Native.Nat.{ℕ}
 use mathlib.Core.Bool.{Bool, true, false, cond, not, _&&_}
 use lib.Dec.{eqb}
-use Rattle.counting.specs.declared.values.Values.{Values}
 use Rattle.counting.specs.Counting.{every}
-use Rattle.counting.specs.Values.{valuesOf}
+use Rattle.counting.specs.Values.{Values, valuesOf}
 use Rattle.table.specs.declared.geometry.Geometry.{Geometry}
 use Rattle.table.specs.declared.changes.Event.{Event}
 use Rattle.table.specs.declared.changes.Event.the-variants.{RollBack, RollForward}

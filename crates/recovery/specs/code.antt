@@ -1,10 +1,10 @@
 -- What only the contracts of private functions cite.
 -- ---- the ways of the code
 pub mod SidesCode
+pub mod Tallies
 pub mod Notes
 pub mod Rows
 pub mod RowsSound
-pub mod Tallies
 pub mod Census
 pub mod RollingCode
 pub mod NumberingCode

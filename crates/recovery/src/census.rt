@@ -8,6 +8,7 @@ ghost use Rattle.entries.specs.code.Row.{topOf};
 ghost use Rattle.survivors.specs.Survivors.{survivors};
 ghost use Rattle.recovery.specs.code.Census.{sideBits, EntryNoted, RowReady, RowNoted, NodeReady, NodeNoted, NodesNoted, KindsTold, Takable, TakenIn};
 use crate::rows;
+use crate::tallies;
 use counting::choice;
 use entries::frames;
 use survivors::lost::Lost;
@@ -245,7 +246,7 @@ fn note_row(
 {
     let start = g.entry_at(node, 0);
     let count = rows::occupied(table, g, node, list);
-    let step = 1 + 0x10_0000 * (node as u64);
+    let step = tallies::step(node);
     let mut low: u64 = 0;
     let mut sum: u64 = 0;
     let mut differ: u64 = 0;
@@ -355,7 +356,8 @@ fn kinds_of(items: u16, tallies: &[u64]) -> Kinds
     while item < items {
         let tally = tallies[item as usize];
         seen = seen & (tally != 0);
-        plain = plain & ((tally % 1024 < 2) & (tally / 1024 % 1024 < 2));
+        let one = tallies::plain(tally);
+        plain = plain & one;
         item += 1;
     }
     Kinds { seen, plain }

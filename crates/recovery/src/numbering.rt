@@ -12,6 +12,7 @@ ghost use Rattle.survivors.specs.Survivors.{survivors};
 ghost use Rattle.recovery.specs.Numbering.{numberAfter, numberChange, numberStores};
 ghost use Rattle.recovery.specs.code.NumberingCode.{noHolders, ofNumber, Met, HoldersTo, survivorCode, numberBy, Numberable, Numbering};
 use crate::rolling;
+use crate::tallies;
 use survivors::lost::Lost;
 use survivors::nodes;
 use table::changes;
@@ -99,10 +100,10 @@ fn number_after(number: u8, lower: u64, others: u64) -> u8
     ensures { λ r. ⌜ r ≡ numberAfter number lower others ⌝ }
 {
     if lower == 0 {
-        return 3 + number;
+        return words::shared_ck(number);
     }
     if (lower == 1) & (others == 0) {
-        return 6 - number;
+        return words::shared_ck(3 - number);
     }
     words::INVALID
 }
@@ -155,7 +156,8 @@ fn number_turn(table: &mut [u64], left: u64, g: Geometry, lost: Lost, item: u16,
     requires { ⌜ Numberable g lost left (now table) item tally ⌝ }
     ensures { λ r. ⌜ Stored g left (pass (λ d. d) (λ d. item) (λ d. numberChange g (survivors lost (view g (now (table .entry)))) d item) (g .nodes)) (now (table .entry)) (now (table .exit)) r ⌝ }
 {
-    if (tally % 1024 < 2) & (tally / 1024 % 1024 < 2) {
+    let plain = tallies::plain(tally);
+    if plain {
         return left;
     }
     number_item(table, left, g, lost, item)

@@ -5,17 +5,17 @@ ghost use Prim.Native.Nat.{_≤_, _<_, _-_};
 ghost use lib.ListN.{length};
 ghost use Rattle.table.specs.Stores.{StoredIn};
 ghost use Rattle.table.specs.View.{view};
-ghost use Rattle.table.specs.Words.{currentOf};
+ghost use Rattle.table.specs.Words.{currentOf, sharedCK};
 ghost use Rattle.table.specs.Changes.{checkpointOf};
 ghost use Rattle.homes.specs.Home.{nodeAfter};
 ghost use Rattle.survivors.specs.Survivors.{survivors};
-ghost use Rattle.recovery.specs.Rolling.{sharedCK};
 ghost use Rattle.recovery.specs.Partners.{partnerChanges, partnerFrom, partnerStores, partnersStores};
 ghost use Rattle.recovery.specs.code.Rows.{HasEntry};
 ghost use Rattle.recovery.specs.code.PartnersCounts.{usedWith};
 ghost use Rattle.recovery.specs.code.PartnersCode.{takesBy, Found, UsedBy, Filled, FilledFrom, Ready, Turned};
 ghost use Rattle.recovery.specs.code.PartnersSkip.{Single, Passable, Settles};
 use crate::rows;
+use crate::tallies;
 use entries::frames;
 use survivors::lost::Lost;
 use survivors::nodes;
@@ -112,7 +112,7 @@ fn partner_code(state: u64) -> u8
     ensures { λ r. ⌜ r ≡ sharedCK (3 - checkpointOf (currentOf state)) ⌝ }
 {
     let number = changes::checkpoint_of(words::current_of(state));
-    3 + (3 - number)
+    words::shared_ck(3 - number)
 }
 
 // The partner of a copy, with the absent number: value, then state.
@@ -195,10 +195,11 @@ fn partner_turn(
     requires { ⌜ Passable g lost left (now table) (now scratch) item tally ⌝ }
     ensures { λ r. ⌜ Turned g lost (partnerStores g item) left (now (table .entry)) (now (table .exit)) (now (scratch .entry)) (now (scratch .exit)) r ⌝ }
 {
-    if 1 < tally % 1024 + tally / 1024 % 1024 {
+    let holders = tallies::holders(tally);
+    if 1 < holders {
         return left;
     }
-    let holder = tally / 0x10_0000 % 1024 + tally / 0x4000_0000;
+    let holder = tallies::holder(tally);
     partner_item(table, left, g, lost, scratch, item, holder)
 }
 

@@ -66,7 +66,7 @@ fn bring_back(table: &mut [u64], left: u64, g: Geometry, node: u8, item: u16, st
     let current = words::current_of(state);
     let kept = words::kept_of(state);
     let value = stores::kept_value_at(table, g, node, item);
-    let code = 3 + kept;
+    let code = words::shared_ck(kept);
     let left = clear_current(table, left, g, node, item, current, kept);
     let left = stores::store_value(table, left, g, node, item, value);
     stores::store_state(table, left, g, node, item, code, words::INVALID)

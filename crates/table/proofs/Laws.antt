@@ -4,7 +4,6 @@ pub mod Forms
 pub mod Geometry
 pub mod Changes
 pub mod Stores
-pub mod Rows
 pub mod View
 pub mod Puts
 pub mod ViewAfter

@@ -3,7 +3,6 @@ pub mod Words
 pub mod Geometry
 pub mod Changes
 pub mod Stores
-pub mod Rows
 pub mod View
 pub mod Pass
 pub mod MarksPass

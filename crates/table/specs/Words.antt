@@ -28,6 +28,10 @@ precommit1 = 6
 abbrev pub precommit2 : ℕ
 precommit2 = 7
 
+-- the Shared-CK of a number
+abbrev pub sharedCK : ℕ → ℕ
+sharedCK number = 3 + number
+
 -- "Kept: 0 Invalid, 1 Inv-CK1, 2 Inv-CK2."
 abbrev pub invCK1 : ℕ
 invCK1 = 1

@@ -4,6 +4,7 @@ ghost use mathlib.Core.List.{[]};
 ghost use Prim.Native.Nat.{_%_};
 ghost use lib.ListN.{getD};
 ghost use Rattle.table.specs.Changes.{changes, changeOf, columnOf, checkpointOf};
+use crate::words;
 
 pub enum Event {
     OtherReads,
@@ -41,7 +42,7 @@ pub const CHANGES: [[u8; 6]; 8] = [
     [NEVER, NEVER, 5, 1, 0, 5],
 ];
 
-// The row of a state code, by indices that are constants: one that varies makes the compiler build the whole table anew.
+// The row of a state code. Its indices are constants: with one that varies the compiler builds the table at each use.
 fn row(state: u8) -> [u8; 6]
     ensures { λ r. ⌜ r ≡ getD changes (state % 8) [] ⌝ }
 {
@@ -83,10 +84,10 @@ pub fn change(state: u8, event: Event) -> u8
 pub fn checkpoint_of(current: u8) -> u8
     ensures { λ r. ⌜ r ≡ checkpointOf current ⌝ }
 {
-    if current == 4 {
+    if current == words::SHARED_CK1 {
         return 1;
     }
-    if current == 5 {
+    if current == words::SHARED_CK2 {
         return 2;
     }
     0

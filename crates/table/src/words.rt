@@ -1,6 +1,7 @@
 // The words of the table: packing and unpacking.
 ghost use mathlib.Core.Path.{_≡_};
-ghost use Rattle.table.specs.Words.{stateWord, currentOf, keptOf, stateForm, markWord, phaseOf, numberOf, markForm, sizeWord, nodesOf, itemsOf, framesOf, sizeForm};
+ghost use Prim.Native.Nat.{_%_};
+ghost use Rattle.table.specs.Words.{sharedCK, stateWord, currentOf, keptOf, markWord, phaseOf, numberOf, markForm, sizeWord, nodesOf, itemsOf, framesOf, sizeForm};
 
 // The codes of a current place.
 pub const INVALID: u8 = 0;
@@ -19,10 +20,12 @@ pub const PRECOMMIT1: u8 = 6;
 
 pub const PRECOMMIT2: u8 = 7;
 
-// The codes of a kept place that is not Invalid.
-pub const INV_CK1: u8 = 1;
-
-pub const INV_CK2: u8 = 2;
+// The Shared-CK of a number; a number has two bits, as a kept place.
+pub fn shared_ck(number: u8) -> u8
+    ensures { λ r. ⌜ r ≡ sharedCK (number % 4) ⌝ }
+{
+    3 + number % 4
+}
 
 // The current place of a state word.
 pub fn current_of(w: u64) -> u8
@@ -43,16 +46,6 @@ pub fn state_word(current: u8, kept: u8) -> u64
     ensures { λ r. ⌜ r ≡ stateWord current kept ⌝ }
 {
     (current as u64) % 16 * 0x1000_0000_0000_0000 + (kept as u64) % 4 * 0x400_0000_0000_0000
-}
-
-// Whether a word has the form of a state word.
-pub fn state_form(w: u64) -> bool
-    ensures { λ r. ⌜ r ≡ stateForm w ⌝ }
-{
-    let current = w / 0x1000_0000_0000_0000;
-    let kept = w / 0x400_0000_0000_0000 % 4;
-    (w % 0x400_0000_0000_0000 == 0)
-        & ((current < 8) & ((kept < 3) & ((kept == 0) | ((current < 4) | (5 < current)))))
 }
 
 // The mark of a live node.

@@ -6,11 +6,10 @@ use native.Mathlib.Omega.{arith}
 use native.Mathlib.Numerals.{add-one}
 use lib.Dec.{eqb}
 use borrow.Author.Tests.{eqb-true, eq-eqb, ne-eqb}
-use Rattle.counting.specs.declared.values.Values.{Values}
 use Rattle.counting.proofs.Laws.Tests.{both, and-both, no-both, by-cases}
 use Rattle.counting.specs.Counting.{count}
 use Rattle.counting.proofs.Laws.Counting.{below, count-zero, none-counted}
-use Rattle.counting.specs.Values.{metOf, noValues, valuesOf}
+use Rattle.counting.specs.Values.{Values, metOf, noValues, valuesOf}
 
 -- ---- one value more
 

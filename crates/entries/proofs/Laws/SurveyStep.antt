@@ -9,9 +9,8 @@ use borrow.Author.Tests.{eq-eqb}
 use Rattle.counting.proofs.Laws.Tests.{by-cases, no-both, and-mixed, eqb-swap}
 use Rattle.counting.specs.Counting.{every}
 use Rattle.counting.proofs.Laws.Counting.{sum-next}
-use Rattle.counting.specs.Values.{metOf, valuesOf}
+use Rattle.counting.specs.Values.{Values, metOf, valuesOf}
 use Rattle.counting.proofs.Laws.Values.{values-next}
-use Rattle.counting.specs.declared.values.Values.{Values}
 use Rattle.table.specs.View.{View, live}
 use Rattle.entries.specs.code.Survey.{codesForm, holds, keeps, holdsAt, keepsAt, framesBy, topAt, liveTop, weightOf, weightAt, heldValues, keptValues, Noted, agreesAt}
 use Rattle.entries.specs.code.SurveyRow.{firstWith, keptWith, sameWith, sameKept}

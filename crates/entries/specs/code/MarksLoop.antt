@@ -5,8 +5,7 @@ use Prim.Native.Nat.{ℕ, _-_, _^_}
 use Rattle.table.specs.Words.{markForm, phaseOf, numberOf}
 use lib.Dec.{eqb, ltb}
 use Rattle.table.specs.View.{View, live}
-use Rattle.counting.specs.declared.values.Values.{Values}
-use Rattle.counting.specs.Values.{valuesOf}
+use Rattle.counting.specs.Values.{Values, valuesOf}
 use Rattle.entries.specs.declared.marks.Marks.{Marks}
 
 -- the live marks below n

@@ -5,8 +5,7 @@ use mathlib.Core.Path.{_≡_}
 use mathlib.Core.Bool.{Bool, true, not, cond, _&&_, _||_}
 use lib.Dec.{eqb, ltb}
 use Rattle.counting.specs.Counting.{sum, one}
-use Rattle.counting.specs.Values.{valuesOf}
-use Rattle.counting.specs.declared.values.Values.{Values}
+use Rattle.counting.specs.Values.{Values, valuesOf}
 use Rattle.table.specs.View.{View, live}
 use Rattle.entries.specs.Frames.{frameOf}
 use Rattle.entries.specs.code.Row.{topOf}

@@ -11,8 +11,8 @@ use Rattle.table.specs.declared.geometry.Geometry.{Geometry}
 use Rattle.table.specs.Words.{sharedCK1, sharedCK2}
 use Rattle.table.specs.Stores.{entryStore, runs, Stored}
 use Rattle.table.proofs.Laws.Stores.{runs-ext, stored-as}
-use Rattle.table.specs.Rows.{nextAhead, aheadAt, placeAhead, freshEntry, rowEntry}
-use Rattle.table.proofs.Laws.Rows.{next-near, next-far, place-first, place-second, place-none}
+use Rattle.layout.specs.code.Rows.{nextAhead, aheadAt, placeAhead, freshEntry, rowEntry}
+use Rattle.layout.proofs.Laws.Rows.{next-near, next-far, place-first, place-second, place-none}
 use Rattle.layout.specs.Format.{firstPlace, firstEntry}
 
 -- the place of an item's second copy

@@ -27,7 +27,8 @@ use Rattle.entries.specs.code.Survey.{codesForm}
 use Rattle.entries.proofs.Laws.SurveySound.{form-parts}
 use Rattle.checkpoints.proofs.Laws.Forward.{by-number, forward-value}
 use Rattle.recovery.specs.Sides.{copyOn}
-use Rattle.recovery.specs.code.Notes.{hasOn, numberWeight}
+use Rattle.recovery.specs.code.Tallies.{numberWeight}
+use Rattle.recovery.specs.code.Notes.{hasOn}
 use Rattle.recovery.proofs.Laws.Notes.{number-small}
 use Rattle.recovery.specs.code.Census.{numberOn, placeOn, sideBits, Weighed, EntryNoted}
 

@@ -38,7 +38,8 @@ use Rattle.recovery.specs.code.Rows.{stateIn, Listed, reached}
 use Rattle.recovery.proofs.Laws.Rows.{reached-start, reached-next, listed-turn, listed-end, row-room}
 use Rattle.recovery.specs.code.RowsSound.{RowTo}
 use Rattle.recovery.proofs.Laws.RowsSound.{row-start, row-turn, row-all, row-sound}
-use Rattle.recovery.specs.code.Notes.{hasOn, numberWeight, stepOf, NotedTo, equalTo}
+use Rattle.recovery.specs.code.Tallies.{numberWeight, stepOf}
+use Rattle.recovery.specs.code.Notes.{hasOn, NotedTo, equalTo}
 use Rattle.recovery.proofs.Laws.Notes.{Notable, noted-start, noted-rooms, noted-same, noted-turn, noted-all, note-dead, note-live, equal-dead, equal-live, number-blank, note-zeros, notes-fit}
 use Rattle.recovery.specs.code.Census.{EntryNoted, RowReady, RowNoted, sideWeight, heldOn, Takable, CensusTo, NodeReady, NodeNoted, NodesNoted, KindsTold, TakenIn}
 
@@ -135,20 +136,20 @@ module _ (g : Geometry) (forward : Bool) (n : ℕ) (t : List ℕ) {start : ℕ} 
 
   -- what the entry's turn needs
   pub passed-asks :
-      {l₀ : List ℕ} → RowReady g n t l₀ s f → n < 256 → k < many
-      → (start + 3 * getD l k 0 + 2 < length t) × ((getD l k 0 < length s′) × ((getD l k 0 < length f′) × ((getD s′ (getD l k 0) 0 < 2 ^ 62) × (stepOf n < 2 ^ 32))))
-  passed-asks r h q =
+      {l₀ : List ℕ} {step : ℕ} → RowReady g n t l₀ s f → n < 256 → step ≡ stepOf n → k < many
+      → (start + 3 * getD l k 0 + 2 < length t) × ((getD l k 0 < length s′) × ((getD l k 0 < length f′) × ((getD s′ (getD l k 0) 0 < 2 ^ 62) × (step < 2 ^ 32))))
+  passed-asks r h e q =
       let b = o .notable .listed .below k q in
       let a = noted-rooms forward (view g t) n g (o .notable) k (p .noted) q in (
         omega (arith, row-room g t n (o .there) (o .placed) (r .long)),
-        (a .0, (a .1, (omega (arith, noted-same forward (view g t) n g (o .notable) k (p .noted) q, r .few (getD l k 0) b), omega arith))),
+        (a .0, (a .1, (omega (arith, noted-same forward (view g t) n g (o .notable) k (p .noted) q, r .few (getD l k 0) b), omega (arith, e)))),
       )
 
   -- after it
-  pub passed-turn :
+  passed-next :
       k < many → {s₁ f₁ : List ℕ} {r : Note} → EntryNoted forward (stepOf n) (entryIn t (start + 3 * getD l k 0)) (getD l k 0) s′ s₁ f′ f₁ r
       → RowPassed forward (view g t) n (reached l (k + 1)) s s₁ f f₁ (bitOr low (r .low)) (sum + r .weight) (bitOr differ (r .differ))
-  passed-turn q {s₁} {f₁} {r} m =
+  passed-next q {s₁} {f₁} {r} m =
       let u = o .notable .listed in
       let j = getD l k 0 in
       let w = m .weighed in
@@ -183,6 +184,13 @@ module _ (g : Geometry) (forward : Bool) (n : ℕ) (t : List ℕ) {start : ℕ} 
               ap (λ x. one (hasOn forward x)) z,
             ));
       }
+
+  pub passed-turn :
+      {step : ℕ} → step ≡ stepOf n → k < many → {s₁ f₁ : List ℕ} {r : Note}
+      → EntryNoted forward step (entryIn t (start + 3 * getD l k 0)) (getD l k 0) s′ s₁ f′ f₁ r
+      → RowPassed forward (view g t) n (reached l (k + 1)) s s₁ f f₁ (bitOr low (r .low)) (sum + r .weight) (bitOr differ (r .differ))
+  passed-turn e q {s₁} {f₁} {r} m =
+      passed-next q (subst (λ (x : ℕ). EntryNoted forward x (entryIn t (start + 3 * getD l k 0)) (getD l k 0) s′ s₁ f′ f₁ r) e m)
 
   pub passed-all :
       g .items ≤ 256 → k ≤ many → many ≤ k → {l₀ : List ℕ} → length l ≡ length l₀

@@ -29,8 +29,8 @@ use Rattle.checkpoints.proofs.Laws.LivePass.{AllPassed, liveEach, entries-via}
 use Rattle.recovery.specs.Sides.{copyOn}
 use Rattle.recovery.specs.Rolling.{rollChange}
 use Rattle.recovery.specs.Numbering.{numberStores}
-use Rattle.recovery.specs.code.Notes.{hasOn, numberWeight, stepOf}
-use Rattle.recovery.specs.code.Tallies.{copyWeight, nodesOf, tallyOf, Tallied, plain}
+use Rattle.recovery.specs.code.Notes.{hasOn}
+use Rattle.recovery.specs.code.Tallies.{numberWeight, stepOf, copyWeight, nodesOf, tallyOf, Tallied, plain}
 use Rattle.recovery.proofs.Laws.Tallies.{plain-nothing}
 use Rattle.recovery.specs.code.NumberingCode.{Unkept}
 use Rattle.recovery.specs.code.Census.{sideWeight, heldOn}

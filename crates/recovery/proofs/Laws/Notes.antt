@@ -8,10 +8,9 @@ use lib.Dec.{eqb, leb}
 use lib.ListN.{length, getD, set}
 use borrow.Author.Tests.{eq-eqb, ne-eqb, eqb-true, leb-true}
 use Rattle.counting.proofs.Laws.Tests.{by-cases, other-holds}
-use Rattle.counting.specs.declared.values.Values.{Values}
 use Rattle.counting.specs.Counting.{every}
 use Rattle.counting.proofs.Laws.Counting.{every-at, every-none, every-next, every-ext, every-and, every-all}
-use Rattle.counting.specs.Values.{metOf}
+use Rattle.counting.specs.Values.{Values, metOf}
 use Rattle.counting.proofs.Laws.Values.{met-seen as met-some}
 use Rattle.table.specs.declared.geometry.Geometry.{Geometry}
 use Rattle.table.specs.declared.changes.Event.the-variants.{RollForward}
@@ -27,7 +26,8 @@ use Rattle.recovery.specs.code.SidesCode.{copiesTo}
 use Rattle.recovery.proofs.Laws.SidesCode.{copies-start, copies-next}
 use Rattle.recovery.specs.code.Rows.{stateIn, Listed, reached}
 use Rattle.recovery.proofs.Laws.Rows.{reached-start, reached-next, listed-turn, listed-end, rowed-none, rowed-blank, rowed-set}
-use Rattle.recovery.specs.code.Notes.{firstMet, numberWeight, stepOf, agreesMet, hasAt, valueAt, weightAt, NotedTo, Noted, equalTo}
+use Rattle.recovery.specs.code.Tallies.{numberWeight, stepOf}
+use Rattle.recovery.specs.code.Notes.{firstMet, agreesMet, hasAt, valueAt, weightAt, NotedTo, Noted, equalTo}
 
 -- ---- a node's recovery copies on a side
 

@@ -9,7 +9,7 @@ use native.Mathlib.Decide.{ℕ-discrete}
 use lib.Dec.{eqb}
 use borrow.Author.Tests.{eqb-true, eq-eqb, ne-eqb}
 use Rattle.counting.proofs.Laws.Tests.{both, and-both, no-both, by-cases}
-use Rattle.table.specs.Words.{invalid, stateWord, currentOf}
+use Rattle.table.specs.Words.{invalid, stateWord, currentOf, sharedCK}
 use Rattle.table.proofs.Laws.Words.{current-state, kept-state}
 use Rattle.table.proofs.Laws.Forms.{alone-form}
 use Rattle.table.specs.Changes.{checkpointOf}
@@ -18,7 +18,7 @@ use Rattle.table.specs.View.{Entry, current, kept, changed}
 use Rattle.table.proofs.Laws.Pass.{Steps, last, next}
 use Rattle.entries.specs.Frames.{frameOf, framesIn}
 use Rattle.entries.proofs.Laws.Frames.{frames-state, frame-le}
-use Rattle.recovery.specs.Rolling.{sharedCK, settled}
+use Rattle.recovery.specs.Rolling.{settled}
 use Rattle.recovery.specs.Numbering.{numberAfter}
 use Rattle.recovery.proofs.Laws.Ready.{PlainEntry}
 

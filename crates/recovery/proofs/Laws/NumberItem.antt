@@ -10,12 +10,12 @@ use borrow.Author.Tests.{ne-eqb}
 use Rattle.counting.proofs.Laws.Tests.{by-cases, no-both, other-holds}
 use Rattle.counting.specs.Counting.{one, count}
 use Rattle.counting.proofs.Laws.Counting.{count-some, none-counted, Only, only-counts}
+use Rattle.table.specs.Words.{sharedCK}
 use Rattle.table.specs.declared.geometry.Geometry.{Geometry}
 use Rattle.table.specs.Changes.{checkpointOf}
 use Rattle.table.specs.View.{Entry, View, live, current}
 use Rattle.entries.specs.Tally.{has, copy}
 use Rattle.entries.proofs.Laws.Kinds.{has-live, has-code, has-at, has-copy, copy-live, copy-code}
-use Rattle.recovery.specs.Rolling.{sharedCK}
 use Rattle.recovery.specs.Numbering.{holders, numberAfter, numberAt}
 use Rattle.counting.proofs.Laws.First.{first-only}
 use Rattle.recovery.specs.Partners.{holderOf}

@@ -12,6 +12,7 @@ use borrow.Author.Tests.{eqb-true, eqb-false}
 use Rattle.counting.proofs.Laws.Tests.{no-both}
 use Rattle.counting.specs.Counting.{count}
 use Rattle.counting.proofs.Laws.Counting.{count-some}
+use Rattle.table.specs.Words.{sharedCK}
 use Rattle.table.specs.declared.geometry.Geometry.{Geometry}
 use Rattle.table.specs.Changes.{checkpointOf}
 use Rattle.table.specs.View.{Entry, View, live, current}
@@ -21,7 +22,7 @@ use Rattle.entries.specs.Tally.{has}
 use Rattle.entries.proofs.Laws.Kinds.{has-live, has-code, has-at}
 use Rattle.homes.proofs.Laws.Kept.{Live, live-test, test-live}
 use Rattle.homes.proofs.Laws.FramesKept.{used-no-more}
-use Rattle.recovery.specs.Rolling.{sharedCK, settled}
+use Rattle.recovery.specs.Rolling.{settled}
 use Rattle.recovery.specs.Numbering.{holders, numberAfter, numberAt, numberChange, numberStores}
 use Rattle.recovery.proofs.Laws.Ready.{HasOne, Plain, Numbered}
 use Rattle.counting.proofs.Laws.Ranks.{ranked}

@@ -15,7 +15,7 @@ use Rattle.counting.specs.code.Counting.{Counted}
 use Rattle.counting.proofs.Laws.Counting.{count-none, count-next, count-le, count-ext}
 use Rattle.table.specs.declared.geometry.Geometry.{Geometry}
 use Rattle.table.specs.Geometry.{wordsOf}
-use Rattle.table.specs.Words.{invalid, sharedCK1, sharedCK2, currentOf}
+use Rattle.table.specs.Words.{invalid, sharedCK1, sharedCK2, currentOf, sharedCK}
 use Rattle.table.specs.Changes.{checkpointOf}
 use Rattle.table.proofs.Laws.Changes.{checkpoint-low}
 use Rattle.table.specs.Stores.{Store, Stored, entryStore, runs}
@@ -29,7 +29,7 @@ use Rattle.survivors.specs.declared.lost.Lost.{Lost}
 use Rattle.recovery.specs.declared.numbering.Holders.{Holders}
 use Rattle.recovery.proofs.Laws.Followed.{stored-any}
 use Rattle.survivors.specs.Survivors.{survivors}
-use Rattle.recovery.specs.Rolling.{sharedCK, settled}
+use Rattle.recovery.specs.Rolling.{settled}
 use Rattle.recovery.specs.Numbering.{holders, numberAfter, numberAt, numberChange, numberStores}
 use Rattle.survivors.proofs.Laws.SurvivorsCode.{survivor-entry, survivor-marks}
 use Rattle.recovery.proofs.Laws.RollingCode.{runs-empty}
@@ -103,14 +103,15 @@ module _ (w : View) (b : ℕ) where
 -- ---- the code that a copy gets
 
 module _ (number lower others : ℕ) where
-  pub after-lowest : lower ≡ 0 → 3 + number ≡ numberAfter number lower others
+  pub after-lowest : {code : ℕ} → number < 3 → lower ≡ 0 → code ≡ sharedCK (number % 4) → code ≡ numberAfter number lower others
   unfolding numberAfter
-  after-lowest h = rw (eq-eqb lower 0 h) refl
+  after-lowest l h q = rw (eq-eqb lower 0 h) (omega (arith, q))
 
   module _ (h : lower ≡ 0 → ⊥) where
-    pub after-second : number < 3 → (eqb lower 1 && eqb others 0) ≡ true → 6 - number ≡ numberAfter number lower others
+    pub after-second :
+        {code : ℕ} → number < 3 → (eqb lower 1 && eqb others 0) ≡ true → code ≡ sharedCK ((3 - number) % 4) → code ≡ numberAfter number lower others
     unfolding numberAfter
-    after-second l e = rw (ne-eqb lower 0 h, e) (omega arith)
+    after-second l e q = rw (ne-eqb lower 0 h, e) (omega (arith, q))
 
     pub after-further : (eqb lower 1 && eqb others 0) ≡ false → invalid ≡ numberAfter number lower others
     unfolding numberAfter

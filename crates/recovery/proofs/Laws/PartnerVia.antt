@@ -11,7 +11,7 @@ use borrow.Author.Tests.{ne-eqb}
 use Rattle.counting.proofs.Laws.Counting.{Only, only-same, only-counts}
 use Rattle.counting.proofs.Laws.First.{first-only}
 use Rattle.table.specs.declared.geometry.Geometry.{Geometry}
-use Rattle.table.specs.Words.{invalid, sharedCK1, sharedCK2, stateWord}
+use Rattle.table.specs.Words.{invalid, sharedCK1, sharedCK2, stateWord, sharedCK}
 use Rattle.table.proofs.Laws.Words.{current-state, kept-state}
 use Rattle.table.proofs.Laws.Forms.{alone-form}
 use Rattle.table.specs.Changes.{checkpointOf}
@@ -27,7 +27,6 @@ use Rattle.entries.proofs.Laws.Update.{Elsewhere, only-gains, only-keeps}
 use Rattle.homes.proofs.Laws.Kept.{Live, live-test, test-live}
 use Rattle.homes.proofs.Laws.OneEntry.{OneAt, one-via, one-held}
 use Rattle.survivors.specs.Survivors.{tooFew}
-use Rattle.recovery.specs.Rolling.{sharedCK}
 use Rattle.recovery.specs.Partners.{single, holderOf, partnerOf, partnerChanges, partnerFrom, partnerStores, partnersStores}
 use Rattle.recovery.proofs.Laws.Ready.{PlainEntry, HasOne, Plain, Paired, Numbered, pair, alone}
 use Rattle.recovery.proofs.Laws.PartnerFound.{coded, pair-copies, partner-found}

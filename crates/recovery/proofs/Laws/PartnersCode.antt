@@ -1,5 +1,5 @@
 -- The laws of `specs/code/PartnersCode.antt`.
-use Prim.Native.Nat.{ℕ, zero, suc, _+_, _-_, _≤_, _<_}
+use Prim.Native.Nat.{ℕ, zero, suc, _+_, _-_, _%_, _≤_, _<_}
 use mathlib.Core.Path.{_≡_, refl, sym, ap, subst, _∙_}
 use mathlib.Core.Bool.{Bool, true, false, cond, _&&_}
 use mathlib.Core.List.{List, [], _∷_, map}
@@ -17,7 +17,7 @@ use Rattle.counting.specs.First.{first}
 use Rattle.counting.proofs.Laws.First.{first-turns, first-found, first-ends, first-le, first-least, first-passes, first-ext}
 use Rattle.table.specs.declared.geometry.Geometry.{Geometry}
 use Rattle.table.specs.Geometry.{wordsOf}
-use Rattle.table.specs.Words.{currentOf, keptOf, invalid}
+use Rattle.table.specs.Words.{currentOf, keptOf, invalid, sharedCK}
 use Rattle.table.specs.Changes.{checkpointOf}
 use Rattle.table.specs.Stores.{Stored, StoredIn, entryStore, valueTo, stateTo}
 use Rattle.table.proofs.Laws.Stores.{stored-none, stored-as, stored-two, All, none, all-then}
@@ -31,7 +31,6 @@ use Rattle.survivors.specs.declared.lost.Lost.{Lost}
 use Rattle.survivors.specs.declared.lost.Lost.the-variants.{Nobody, Node}
 use Rattle.survivors.specs.Survivors.{survivors}
 use Rattle.survivors.proofs.Laws.SurvivorsCode.{survivor-entry}
-use Rattle.recovery.specs.Rolling.{sharedCK}
 use Rattle.recovery.specs.Partners.{single, holderOf, takes, takesAfter, partnerOf, partnerChanges, partnerFrom, partnerStores, staged, partnersStores}
 use Rattle.recovery.proofs.Laws.Followed.{stored-any, view-left, Entered, entered-changes, entered-within, survivors-entered, stage-follows}
 use Rattle.recovery.specs.code.Rows.{HasEntry}
@@ -133,6 +132,13 @@ unfolding partnerBy
 partner-none g w s b n i h so k l =
     let e : i ≡ g .nodes - 1 = omega arith in
     sym (ap (nodeAfter g n) (sym (first-ends (takesByAfter g w s b n) i (g .nodes - 1) so k l)) ∙ after-all g n h)
+
+-- ---- the partner's code: the absent number
+
+pub code-absent :
+    (state : ℕ) {c number code : ℕ} → c ≡ currentOf state → number ≡ checkpointOf c → code ≡ sharedCK ((3 - number) % 4)
+    → code ≡ sharedCK (3 - checkpointOf (currentOf state))
+code-absent state h e q = rw (← h) (omega (arith, e, q))
 
 -- ---- the partner's stores: "(value, state)"; the premises are in the order of the code's stores
 

@@ -12,14 +12,13 @@ use borrow.Author.Tests.{ne-eqb}
 use Rattle.counting.proofs.Laws.Tests.{by-cases}
 use Rattle.counting.proofs.Laws.Counting.{sum-ext, below, sum-change}
 use Rattle.table.specs.declared.geometry.Geometry.{Geometry}
-use Rattle.table.specs.Words.{keptOf, stateWord, invalid}
+use Rattle.table.specs.Words.{keptOf, stateWord, invalid, sharedCK}
 use Rattle.table.specs.Changes.{checkpointOf}
 use Rattle.table.specs.Stores.{entryStore, valueTo, stateTo}
 use Rattle.table.specs.View.{Entry, View, live, current, put₂, changed, updates}
 use Rattle.table.proofs.Laws.Puts.{put₂-same, put₂-other}
 use Rattle.entries.specs.Frames.{frameOf, framesIn, framesAt, used}
 use Rattle.entries.proofs.Laws.Frames.{frames-state}
-use Rattle.recovery.specs.Rolling.{sharedCK}
 use Rattle.recovery.specs.Partners.{partnerChanges}
 use Rattle.recovery.specs.code.PartnersCounts.{AgreesTo, usedWith}
 

@@ -106,8 +106,10 @@ pub turn-skipped :
     → Turned g lost (partnerStores g b) left t t s s left
 turn-skipped g lost {left} {b} {tally} {t} {s} p h = item-other g lost b (λ z. p .stands z .skip h) (p .ready .counts)
 
-pub turn-single : (g : Geometry) (lost : Lost) {left b tally : ℕ} {t s : List ℕ} → Passable g lost left t s b tally → holdersBy tally ≤ 1 → Single g lost left t b (holderBy tally)
-turn-single g lost p h = record { one = λ z. p .stands z .single h; is = λ z. p .stands z .holder h }
+pub turn-single :
+    (g : Geometry) (lost : Lost) {left b tally holder : ℕ} {t s : List ℕ} → Passable g lost left t s b tally → holdersBy tally ≤ 1
+    → holder ≡ holderBy tally → Single g lost left t b holder
+turn-single g lost p h e = record { one = λ z. p .stands z .single h; is = λ z. e ∙ p .stands z .holder h }
 
 pub turn-ready :
     (g : Geometry) (lost : Lost) (i : ℕ) {left left₁ tally : ℕ} {t t₁ s s₁ tallies : List ℕ} → Ready g lost left t s → i < g .items

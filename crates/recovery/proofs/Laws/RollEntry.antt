@@ -12,7 +12,7 @@ use Rattle.counting.proofs.Laws.Tests.{by-cases, both, other-holds, no-both}
 use Rattle.counting.specs.Counting.{every}
 use Rattle.counting.proofs.Laws.Counting.{every-at}
 use Rattle.table.specs.declared.changes.Event.the-variants.{RollBack, RollForward}
-use Rattle.table.specs.Words.{stateWord, currentOf, keptOf, stateForm, invalid}
+use Rattle.table.specs.Words.{stateWord, currentOf, keptOf, stateForm, invalid, sharedCK}
 use Rattle.table.proofs.Laws.Words.{current-state, kept-state}
 use Rattle.table.proofs.Laws.Forms.{form-facts, low-form, alone-form}
 use Rattle.table.specs.Changes.{changeOf, checkpointOf}
@@ -24,7 +24,7 @@ use Rattle.table.proofs.Laws.Copies.{value-free, back-moved}
 use Rattle.entries.specs.Frames.{frameOf, framesIn}
 use Rattle.entries.proofs.Laws.Frames.{frames-state, frame-le}
 use Rattle.recovery.specs.Sides.{sideEvent, copyOn}
-use Rattle.recovery.specs.Rolling.{sharedCK, bringBack, settled, rollChange}
+use Rattle.recovery.specs.Rolling.{bringBack, settled, rollChange}
 use Rattle.recovery.proofs.Laws.Ready.{PlainEntry}
 
 -- what every single store keeps of an entry e₀ that has become e

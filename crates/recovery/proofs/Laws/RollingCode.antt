@@ -6,12 +6,10 @@ use mathlib.Core.List.{List, [], _∷_, _++_, map, append-assoc}
 use native.Mathlib.Omega.{arith}
 use lib.Dec.{eqb}
 use lib.ListN.{length, getD}
-use borrow.Author.Tests.{eq-eqb, ne-eqb, eqb-true}
-use Rattle.counting.specs.Counting.{every}
-use Rattle.counting.proofs.Laws.Counting.{every-at}
+use borrow.Author.Tests.{eq-eqb, ne-eqb}
 use Rattle.table.specs.declared.geometry.Geometry.{Geometry}
 use Rattle.table.specs.Geometry.{wordsOf, entryWords, Placed}
-use Rattle.table.specs.Words.{invalid, currentOf, keptOf}
+use Rattle.table.specs.Words.{invalid, sharedCK, currentOf, keptOf}
 use Rattle.table.specs.declared.changes.Event.the-variants.{RollBack, RollForward}
 use Rattle.table.specs.Changes.{changeOf}
 use Rattle.table.specs.Stores.{Store, Change, Stored, StoredIn, entryStore, stateTo, valueTo, runs}
@@ -67,17 +65,18 @@ clear-stores c k h = rw (ne-eqb c invalid h) refl
 
 -- "state with current Invalid if it was not; current value; state": the premises are in the order of the code's stores
 pub back-all :
-    {g : Geometry} (n b : ℕ) (e : Entry) {w c k x left left₁ left₂ left₃ : ℕ} {t t₁ t₂ t₃ : List ℕ}
-    → w ≡ e .state → c ≡ currentOf w → k ≡ keptOf w → x ≡ e .keptValue
+    {g : Geometry} (n b : ℕ) (e : Entry) {w c k x code left left₁ left₂ left₃ : ℕ} {t t₁ t₂ t₃ : List ℕ}
+    → w ≡ e .state → c ≡ currentOf w → k ≡ keptOf w → x ≡ e .keptValue → code ≡ sharedCK (k % 4)
     → StoredIn g left n b (cleared c k) t t₁ left₁
     → StoredIn g left₁ n b (valueTo x ∷ []) t₁ t₂ left₂
-    → StoredIn g left₂ n b (stateTo (3 + k) invalid ∷ []) t₂ t₃ left₃ → StoredIn g left n b (bringBack e) t t₃ left₃
+    → StoredIn g left₂ n b (stateTo code invalid ∷ []) t₂ t₃ left₃ → StoredIn g left n b (bringBack e) t t₃ left₃
 unfolding bringBack
-back-all n b e {w} {c} {k} {x} z p q h first second third =
-    let same : bringBack e ≡ (cleared c k ++ (valueTo x ∷ [])) ++ (stateTo (3 + k) invalid ∷ []) =
-    rw (p, q, z, h) (sym (append-assoc (cleared (current e) (kept e)) (valueTo (e .keptValue) ∷ []) (stateTo (3 + kept e) invalid ∷ []))) in
+back-all n b e {w} {c} {k} {x} {code} z p q h d first second third =
+    let own : code ≡ sharedCK k = omega (arith, d, q) in
+    let same : bringBack e ≡ (cleared c k ++ (valueTo x ∷ [])) ++ (stateTo code invalid ∷ []) =
+    rw (own, p, q, z, h) (sym (append-assoc (cleared (current e) (kept e)) (valueTo (e .keptValue) ∷ []) (stateTo (sharedCK (kept e)) invalid ∷ []))) in
     stored-as (ap (map (entryStore n b)) same)
-    (stored-three n b (cleared c k) (valueTo x ∷ []) (stateTo (3 + k) invalid ∷ []) first second third)
+    (stored-three n b (cleared c k) (valueTo x ∷ []) (stateTo code invalid ∷ []) first second third)
 
 -- ---- the survivors' entries
 

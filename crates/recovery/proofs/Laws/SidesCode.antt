@@ -2,9 +2,8 @@
 use Prim.Native.Nat.{ℕ, _+_}
 use mathlib.Core.Path.{_≡_}
 use mathlib.Core.Bool.{Bool, cond}
-use Rattle.counting.specs.declared.values.Values.{Values}
 use Rattle.counting.specs.Counting.{every}
-use Rattle.counting.specs.Values.{metOf, noValues}
+use Rattle.counting.specs.Values.{Values, metOf, noValues}
 use Rattle.counting.proofs.Laws.Values.{values-none, values-next}
 use Rattle.table.specs.declared.geometry.Geometry.{Geometry}
 use Rattle.table.specs.View.{View}

@@ -12,11 +12,12 @@ use Rattle.counting.specs.Counting.{count}
 use Rattle.counting.proofs.Laws.Counting.{count-le, none-counted, only}
 use Rattle.counting.proofs.Laws.Ranks.{count-above}
 use Rattle.counting.proofs.Laws.Crowded.{sum-only}
+use Rattle.table.specs.Words.{sharedCK}
 use Rattle.table.specs.declared.geometry.Geometry.{Geometry}
 use Rattle.table.specs.View.{View, live, current, kept}
 use Rattle.entries.specs.Tally.{has}
 use Rattle.entries.proofs.Laws.Kinds.{has-at}
-use Rattle.recovery.specs.Rolling.{sharedCK, settled}
+use Rattle.recovery.specs.Rolling.{settled}
 use Rattle.recovery.specs.Numbering.{holders, numberAfter, numberAt, numberChange}
 use Rattle.recovery.specs.code.Tallies.{copyWeight, nodesOf, tallyOf, plain, holdersBy, holderBy}
 

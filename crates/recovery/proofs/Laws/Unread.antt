@@ -11,7 +11,6 @@ use Rattle.counting.proofs.Laws.Counting.{every-ext, count-ext}
 use Rattle.counting.proofs.Laws.First.{first-ext}
 use Rattle.counting.proofs.Laws.Tests.{both, and-same, by-cases}
 use Rattle.counting.proofs.Laws.Values.{values-ext}
-use Rattle.counting.specs.declared.values.Values.{Values}
 use Rattle.table.specs.declared.geometry.Geometry.{Geometry}
 use Rattle.table.specs.Words.{invalid}
 use Rattle.table.specs.Stores.{Store, sizeStore, markStore, entryStore}

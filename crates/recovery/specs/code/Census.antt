@@ -24,9 +24,9 @@ use Rattle.recovery.specs.declared.census.Census.{Census}
 use Rattle.recovery.specs.Recover.{survivorsFormed}
 use Rattle.recovery.specs.Sides.{copyOn, itemFits}
 use Rattle.recovery.specs.code.SidesCode.{copiesTo}
-use Rattle.recovery.specs.code.Tallies.{plain}
+use Rattle.recovery.specs.code.Tallies.{numberWeight, stepOf, plain}
 use Rattle.recovery.specs.code.RowsSound.{RowTo}
-use Rattle.recovery.specs.code.Notes.{hasOn, numberWeight, stepOf, firstMet, agreesMet, NotedTo, Noted, equalTo}
+use Rattle.recovery.specs.code.Notes.{hasOn, firstMet, agreesMet, NotedTo, Noted, equalTo}
 
 -- ---- an entry
 

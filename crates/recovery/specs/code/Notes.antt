@@ -1,5 +1,5 @@
 -- The recovery copies of each item, noted by rows: the first value, and a tally, which is 0 while there is none.
-use Prim.Native.Nat.{ℕ, _+_, _*_, _/_, _%_, _^_, _≤_, _<_}
+use Prim.Native.Nat.{ℕ, _+_, _*_, _≤_, _<_}
 use mathlib.Core.Path.{_≡_}
 use mathlib.Core.Bool.{Bool, cond, not, _||_}
 use mathlib.Core.List.{List}
@@ -12,19 +12,12 @@ use Rattle.table.specs.Copies.{copyNumber, copyValue}
 use Rattle.recovery.specs.Sides.{copyOn}
 use Rattle.recovery.specs.code.SidesCode.{copiesTo}
 use Rattle.recovery.specs.code.Rows.{Rowed}
+use Rattle.recovery.specs.code.Tallies.{numberWeight, stepOf}
 
 -- ---- one copy more, if there is one
 
 abbrev pub firstMet : Bool → ℕ → ℕ → ℕ → ℕ
 firstMet has tally first x = cond has (cond (eqb tally 0) x first) first
-
--- what a recovery copy of this number adds to its item's tally: 1 for the first, 1024 for the second
-abbrev pub numberWeight : ℕ → ℕ
-numberWeight k = k % 2 + 1024 * (k / 2 % 2)
-
--- what node n's copies are taken times, so that the tally of a single copy tells its holder
-abbrev pub stepOf : ℕ → ℕ
-stepOf n = 1 + 2 ^ 20 * n
 
 abbrev pub agreesMet : Bool → ℕ → ℕ → ℕ → Bool
 agreesMet has tally first x = not has || (eqb tally 0 || eqb x first)

@@ -1,8 +1,7 @@
 -- The recovery copies of an item on a side, node by node.
 use Prim.Native.Nat.{ℕ}
 use mathlib.Core.Bool.{Bool}
-use Rattle.counting.specs.declared.values.Values.{Values}
-use Rattle.counting.specs.Values.{valuesOf}
+use Rattle.counting.specs.Values.{Values, valuesOf}
 use Rattle.table.specs.View.{View}
 use Rattle.table.specs.Copies.{copyValue}
 use Rattle.recovery.specs.Sides.{copyOn, hasCopy}

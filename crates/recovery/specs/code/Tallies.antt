@@ -12,7 +12,15 @@ use Rattle.table.specs.declared.geometry.Geometry.{Geometry}
 use Rattle.table.specs.View.{View}
 use Rattle.entries.specs.Tally.{has}
 
--- what node n's copy adds
+-- what a recovery copy of this number adds to its item's tally: 1 for the first, 1024 for the second
+abbrev pub numberWeight : ℕ → ℕ
+numberWeight k = k % 2 + 1024 * (k / 2 % 2)
+
+-- what node n's copies are taken times, so that the tally of a single copy tells its holder
+abbrev pub stepOf : ℕ → ℕ
+stepOf n = 1 + 2 ^ 20 * n
+
+-- the digits of node n's copy
 abbrev pub copyWeight : View → ℕ → ℕ → ℕ
 copyWeight w b n = one (has w b 4 n) + 1024 * one (has w b 5 n)
 

@@ -5,8 +5,8 @@ use mathlib.Core.Bool.{true}
 use Prim.Native.Nat.{ℕ, _/_, _%_, _^_, _<_}
 use native.Mathlib.Omega.{arith}
 use lib.Dec.{ltb, eqb}
-use borrow.Author.Tests.{eqb-true, eqb-false, eq-eqb, ltb-true, ltb-false, lt-ltb}
-use Rattle.counting.proofs.Laws.Tests.{both, and-both, either, or-left, or-right, by-cases}
+use borrow.Author.Tests.{eqb-true, eq-eqb, ltb-true, lt-ltb}
+use Rattle.counting.proofs.Laws.Tests.{both, and-both, either, or-left, or-right}
 use Rattle.table.specs.Words.{sharedCK1, sharedCK2, currentOf, keptOf, stateWord, stateForm, phaseOf, numberOf, liveOf, markWord, markForm, sizeWord, sizeForm}
 use Rattle.table.proofs.Laws.Words.{mark-parts}
 
@@ -32,17 +32,6 @@ module _ (w : ℕ) where
             (λ l. let k = ltb-true (currentOf w) 4 l in ((λ (e : currentOf w ≡ 4). omega arith), (λ (e : currentOf w ≡ 5). omega arith)))
             (λ l. let k = ltb-true 5 (currentOf w) l in ((λ (e : currentOf w ≡ 4). omega arith), (λ (e : currentOf w ≡ 5). omega arith))));
       }
-
-  pub facts-form : Formed w → stateForm w ≡ true
-  facts-form f =
-      and-both (eq-eqb (w % 2 ^ 58) 0 (f .rest))
-      (and-both (lt-ltb (currentOf w) 8 (f .code))
-      (and-both (lt-ltb (keptOf w) 3 (f .keptCode))
-      (by-cases (eqb (keptOf w) 0) (λ z. or-left _ z)
-      (λ z. or-right (eqb (keptOf w) 0)
-      (let a = f .alone (eqb-false (keptOf w) 0 z) in
-      by-cases (ltb (currentOf w) 4) (λ l. or-left _ l)
-      (λ l. or-right (ltb (currentOf w) 4) (lt-ltb 5 (currentOf w) (omega (arith, ltb-false (currentOf w) 4 l, a .0, a .1)))))))))
 
 -- Invalid, Shared, Owner and Modified stand beside any kept place
 pub low-form : (c k : ℕ) → c < 4 → k < 3 → stateForm (stateWord c k) ≡ true

@@ -28,9 +28,6 @@ module _ (p n : ℕ) (hp : p < 4) (hn : n < 2 ^ 32) where
   pub number-mark : numberOf (markWord p n) ≡ n
   number-mark = omega arith
 
-  pub live-bit-mark : liveOf (markWord p n) ≡ 1
-  live-bit-mark = omega arith
-
 pub mark-parts : (w : ℕ) → w % 2 ^ 29 ≡ 0 → liveOf w ≡ 1 → w ≡ markWord (phaseOf w) (numberOf w)
 mark-parts w r l =
     let p : w / 2 ^ 61 ≡ w / 2 ^ 63 * 4 + w / 2 ^ 61 % 4 = omega arith in

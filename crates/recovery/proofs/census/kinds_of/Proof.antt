@@ -20,8 +20,8 @@ abbrev μ-loop : tie.MeasureT-loop
 
 loop-again : tie.Need-loop-again Inv-loop μ-loop
 loop-again c =
-    let i = c .before .before .loop .inv .1 in
-    (search needs, (every-next _ _ (i .0) refl, every-next _ _ (i .1) refl))
+    let i = c .before .before .before .loop .inv .1 in
+    (search needs, (every-next _ _ (i .0) refl, every-next _ _ (i .1) (c .plain .ensures)))
 
 returns : tie.Need-returns Inv-loop μ-loop
 returns c =
@@ -41,6 +41,7 @@ kinds-of-spec =
     (λ c. search needs)
     (λ c. search needs)
     (λ c. search needs)
+    (λ c κs. search needs)
     (λ c. search needs)
     (λ c. search needs)
     loop-again

@@ -22,26 +22,26 @@ occupied-requires : tie.Need-occupied-requires Inv-loop μ-loop
 occupied-requires c κs = let p = c .before .before .before .before .before .before .pre in (p .there, (p .long, p .list-room))
 
 read-item : tie.Need-slice-read-item Inv-loop μ-loop
-read-item c = let a = c .before .before .before .before .before .occupied .ensures .listed .room in search needs
+read-item c = let a = c .before .before .before .before .before .before .occupied .ensures .listed .room in search needs
 
 cast-item : tie.Need-cast-item Inv-loop μ-loop
 cast-item c =
     let t = c .before in
-    let o = t .before .before .before .before in
+    let o = t .before .before .before .before .before in
     let f = o .before .before .before .before .before .before .before in
     record { fits = omega (arith, o .occupied .ensures .listed .below _ (t .loop-test .taken), f .pre .tallies-room, f .good .1 .1 .1 .1 .1 .0 .1) }
 
 mul-item : tie.Need-mul-note-entry Inv-loop μ-loop
 mul-item c =
     let t = c .before in
-    let o = t .before .before .before .before in
+    let o = t .before .before .before .before .before in
     let f = o .before .before .before .before .before .before .before in
     record { fits = omega (arith, o .occupied .ensures .listed .below _ (t .loop-test .taken), f .pre .tallies-room, f .good .1 .1 .1 .1 .1 .0 .1) }
 
 add-at : tie.Need-add-note-entry Inv-loop μ-loop
 add-at c =
     let t = c .before in
-    let o = t .before .before .before .before in
+    let o = t .before .before .before .before .before in
     let f = o .before .before .before .before .before .before .before in
     record { fits = omega (arith, o .occupied .ensures .listed .below _ (t .loop-test .taken), o .before .before .entry-at .ensures .small, f .pre .tallies-room, f .good .1 .1 .1 .1 .1 .0 .1) }
 
@@ -49,18 +49,18 @@ note-entry-requires : tie.Need-note-entry-requires Inv-loop μ-loop
 note-entry-requires c κs =
     let t = c .before .before .before in
     let l = t .before in
-    let o = l .before .before .before in
+    let o = l .before .before .before .before in
     let e = o .before .before in
     let f = e .before .before .before .before .before in
     let w = row-lists (f .args .g) (f .args .node) (f .args .table .now) (f .pre) (e .entry-at .ensures) (o .occupied .ensures .listed) in
-    passed-asks (f .args .g) (f .args .forward) (f .args .node) (f .args .table .now) w _ (l .loop .inv .1 (f .args .g) w) (f .pre) (search needs) (t .loop-test .taken)
+    passed-asks (f .args .g) (f .args .forward) (f .args .node) (f .args .table .now) w _ (l .loop .inv .1 (f .args .g) w) (f .pre) (search needs) (l .before .step .ensures) (t .loop-test .taken)
 
 add-sum : tie.Need-add-sum Inv-loop μ-loop
 add-sum c =
     let n = c .before .before .before .before .before in
     let t = n .before .before .before .before in
     let l = t .before in
-    let o = l .before .before .before in
+    let o = l .before .before .before .before in
     let e = o .before .before in
     let f = e .before .before .before .before .before in
     let w = row-lists (f .args .g) (f .args .node) (f .args .table .now) (f .pre) (e .entry-at .ensures) (o .occupied .ensures .listed) in
@@ -72,13 +72,13 @@ loop-again c =
     let n = c .before .before .before .before .before .before .before in
     let t = n .before .before .before .before in
     let l = t .before in
-    let f = l .before .before .before .before .before .before .before .before .before .before in
-    (search needs, λ g w. passed-turn g (f .args .forward) (f .args .node) (f .args .table .now) w _ (l .loop .inv .1 g w) (t .loop-test .taken) (n .note-entry .ensures))
+    let f = l .before .before .before .before .before .before .before .before .before .before .before in
+    (search needs, λ g w. passed-turn g (f .args .forward) (f .args .node) (f .args .table .now) w _ (l .loop .inv .1 g w) (l .before .step .ensures) (t .loop-test .taken) (n .note-entry .ensures))
 
 tallies-same : tie.Need-same-length-2 Inv-loop μ-loop
 tallies-same c =
     let l = c .before in
-    let o = l .before .before .before in
+    let o = l .before .before .before .before in
     let e = o .before .before in
     let f = e .before .before .before .before .before in
     let w = row-lists (f .args .g) (f .args .node) (f .args .table .now) (f .pre) (e .entry-at .ensures) (o .occupied .ensures .listed) in
@@ -87,7 +87,7 @@ tallies-same c =
 firsts-same : tie.Need-same-length-3 Inv-loop μ-loop
 firsts-same c =
     let l = c .before in
-    let o = l .before .before .before in
+    let o = l .before .before .before .before in
     let e = o .before .before in
     let f = e .before .before .before .before .before in
     let w = row-lists (f .args .g) (f .args .node) (f .args .table .now) (f .pre) (e .entry-at .ensures) (o .occupied .ensures .listed) in
@@ -96,7 +96,7 @@ firsts-same c =
 returns : tie.Need-returns Inv-loop μ-loop
 returns c =
     let l = c .before in
-    let o = l .before .before .before in
+    let o = l .before .before .before .before in
     let e = o .before .before in
     let f = e .before .before .before .before .before in
     let w = row-lists (f .args .g) (f .args .node) (f .args .table .now) (f .pre) (e .entry-at .ensures) (o .occupied .ensures .listed) in
@@ -110,8 +110,7 @@ note-row-spec =
     μ-loop
     (λ c κs. search needs)
     occupied-requires
-    (λ c. search needs)
-    (λ c. search needs)
+    (λ c κs. search needs)
     (λ c. (search needs, λ g w. passed-start _ _ _ _ _ _))
     (λ c. search needs)
     read-item

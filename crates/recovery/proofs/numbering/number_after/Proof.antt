@@ -8,8 +8,9 @@ pub number-after-spec : {M : Type 1} → statement M
 number-after-spec =
     tie.close
     (tie.spec
+    (λ c κs. search needs)
+    (λ c. after-lowest _ _ _ (c .before .before .pre) (c .before .if1 .taken) (c .shared-ck .ensures))
     (λ c. search needs)
-    (λ c. after-lowest _ _ _ (c .if1 .taken))
-    (λ c. search needs)
-    (λ c. after-second _ _ _ (c .before .if1 .left) (c .before .before .pre) (c .if2 .taken))
+    (λ c κs. search needs)
+    (λ c. after-second _ _ _ (c .before .before .if1 .left) (c .before .before .before .pre) (c .before .if2 .taken) (c .shared-ck2 .ensures))
     (λ c. after-further _ _ _ (c .before .if1 .left) (c .if2 .left)))

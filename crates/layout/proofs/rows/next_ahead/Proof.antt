@@ -1,9 +1,9 @@
 -- `next_ahead` meets its contract: two less, or around. Assumes nothing.
 use native.Mathlib.Omega.{arith}
-use Rattle.table.proofs.Laws.Rows.{next-near, next-far}
+use Rattle.layout.proofs.Laws.Rows.{next-near, next-far}
 use borrow.Author.Needs.{needs}
-use Rattle.table.proofs.stores.next_ahead.Statement.{statement}
-use Rattle.table.proofs.stores.next_ahead.Tie as tie
+use Rattle.layout.proofs.rows.next_ahead.Statement.{statement}
+use Rattle.layout.proofs.rows.next_ahead.Tie as tie
 
 pub next-ahead-spec : {M : Type 1} → statement M
 next-ahead-spec =

@@ -1,15 +1,15 @@
--- The laws of `specs/Rows.antt`.
+-- The laws of `specs/code/Rows.antt`.
 use Prim.Native.Nat.{ℕ, _+_, _-_, _≤_, _<_}
 use mathlib.Core.Path.{_≡_, refl, ap, sym, _∙_}
 use mathlib.Core.List.{List, [], _∷_, map}
 use native.Mathlib.Omega.{arith}
 use native.Mathlib.Numerals.{add-one}
 use borrow.Author.Tests.{eq-eqb, ne-eqb, lt-ltb, le-ltb}
 use Rattle.table.specs.declared.geometry.Geometry.{Geometry}
 use Rattle.table.specs.Words.{invalid}
 use Rattle.table.specs.Stores.{stateTo, valueTo, keptTo, entryStore, runs, Stored, StoredIn}
 use Rattle.table.proofs.Laws.Stores.{stored-then, stored-as, loop-starts, loop-turns, loop-ends}
-use Rattle.table.specs.Rows.{nextAhead, aheadAt, placeAhead, freshEntry, rowEntry}
+use Rattle.layout.specs.code.Rows.{nextAhead, aheadAt, placeAhead, freshEntry, rowEntry}
 
 -- ---- the ways of the code
 

@@ -1,8 +1,8 @@
 -- `store_fresh` meets its contract: state, value, kept value. Assumes nothing.
-use Rattle.table.proofs.Laws.Rows.{fresh-then}
+use Rattle.layout.proofs.Laws.Rows.{fresh-then}
 use borrow.Author.Needs.{needs}
-use Rattle.table.proofs.stores.store_fresh.Statement.{statement}
-use Rattle.table.proofs.stores.store_fresh.Tie as tie
+use Rattle.layout.proofs.rows.store_fresh.Statement.{statement}
+use Rattle.layout.proofs.rows.store_fresh.Tie as tie
 
 pub store-fresh-spec : {M : Type 1} → statement M
 store-fresh-spec =

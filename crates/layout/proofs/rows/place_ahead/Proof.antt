@@ -1,8 +1,8 @@
 -- `place_ahead` meets its contract: a place for each way out. Assumes nothing.
 use native.Mathlib.Omega.{arith}
-use Rattle.table.proofs.Laws.Rows.{place-first, place-second, place-none}
-use Rattle.table.proofs.stores.place_ahead.Statement.{statement}
-use Rattle.table.proofs.stores.place_ahead.Tie as tie
+use Rattle.layout.proofs.Laws.Rows.{place-first, place-second, place-none}
+use Rattle.layout.proofs.rows.place_ahead.Statement.{statement}
+use Rattle.layout.proofs.rows.place_ahead.Tie as tie
 
 pub place-ahead-spec : {M : Type 1} → statement M
 place-ahead-spec =

@@ -1,9 +1,9 @@
 -- `store_row` meets its contract: the loop has stored the items before `item`. Assumes nothing.
 use Prim.Native.Nat.{_-_}
-use Rattle.table.proofs.Laws.Rows.{Row, row-starts, row-turns, row-ends}
+use Rattle.layout.proofs.Laws.Rows.{Row, row-starts, row-turns, row-ends}
 use borrow.Author.Needs.{needs}
-use Rattle.table.proofs.stores.store_row.Statement.{statement}
-use Rattle.table.proofs.stores.store_row.Tie as tie
+use Rattle.layout.proofs.rows.store_row.Statement.{statement}
+use Rattle.layout.proofs.rows.store_row.Tie as tie
 
 abbrev Inv-loop : tie.InvT-loop
 Inv-loop table₀ left g node first second around items left₀ ahead₀ item₀ table left' ahead item =
