@@ -8,6 +8,7 @@ use native.Mathlib.Omega.{arith}
 use native.Mathlib.Decide.{decLt}
 use lib.Dec.{leb, eqb, ltb}
 use borrow.Author.Tests.{eqb-true}
+use Rattle.counting.specs.Values.{Values}
 use Rattle.counting.proofs.Laws.Tests.{both, and-same, by-cases}
 use Rattle.counting.specs.Counting.{count}
 use Rattle.counting.specs.First.{first}

@@ -7,6 +7,7 @@ use mathlib.Core.List.{List, [], _++_, map}
 use native.Mathlib.Omega.{arith}
 use lib.Dec.{eqb}
 use Rattle.counting.specs.Counting.{count}
+use Rattle.counting.specs.Values.{Values}
 use Rattle.counting.proofs.Laws.Counting.{every-ext, count-ext}
 use Rattle.counting.proofs.Laws.First.{first-ext}
 use Rattle.counting.proofs.Laws.Tests.{both, and-same, by-cases}
