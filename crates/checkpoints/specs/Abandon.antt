@@ -5,7 +5,7 @@ use Rattle.table.specs.declared.geometry.Geometry.{Geometry}
 use Rattle.table.specs.Words.{numberOf, markWord}
 use Rattle.table.specs.Stores.{Store}
 use Rattle.table.specs.View.{View}
-use Rattle.table.specs.MarksPass.{marksTo}
+use Rattle.table.specs.Pass.{marksTo}
 use Rattle.table.specs.Answers.{Plan, carry}
 use Rattle.checkpoints.specs.declared.checkpoint.Closing.the-variants.{Abandoned}
 use Rattle.homes.specs.Plans.{planBy}

@@ -8,7 +8,7 @@ use Rattle.table.specs.declared.answers.Refusal.the-variants.{NotCreated}
 use Rattle.table.specs.Words.{numberOf, markWord}
 use Rattle.table.specs.Stores.{Store}
 use Rattle.table.specs.View.{View}
-use Rattle.table.specs.MarksPass.{marksTo}
+use Rattle.table.specs.Pass.{marksTo}
 use Rattle.table.specs.Answers.{Plan, carry}
 use Rattle.homes.specs.declared.admission.Admission.{Admission}
 use Rattle.homes.specs.declared.admission.Admission.the-variants.{Admitted, Turned}

@@ -10,7 +10,7 @@ use Rattle.table.specs.Words.{shared, precommit1, precommit2}
 use Rattle.table.specs.Stores.{Store, entryStore, stateTo}
 use Rattle.table.specs.View.{View, current, kept, live}
 use Rattle.table.specs.Answers.{Plan, refuse, nothingLeft, carry}
-use Rattle.counting.specs.First.{first}
+use Rattle.counting.specs.Counting.{first}
 use Rattle.homes.specs.declared.places.Place.the-variants.{Current}
 use Rattle.entries.specs.Dirty.{ownerOf, dirtyItem, noneDirty}
 use Rattle.checkpoints.specs.Checkpoint.{openAdmission}

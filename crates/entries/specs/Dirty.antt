@@ -2,7 +2,7 @@
 use Prim.Native.Nat.{ℕ}
 use mathlib.Core.Bool.{Bool, not, _&&_, _||_}
 use lib.Dec.{eqb, ltb}
-use Rattle.counting.specs.First.{first}
+use Rattle.counting.specs.Counting.{first}
 use Rattle.table.specs.declared.geometry.Geometry.{Geometry}
 use Rattle.table.specs.Words.{owner, modified}
 use Rattle.table.specs.View.{View, current, live}

@@ -7,7 +7,7 @@ use Rattle.table.specs.declared.geometry.Geometry.{Geometry}
 use Rattle.table.specs.Words.{keptOf, invalid, shared}
 use Rattle.table.specs.Stores.{Store, Change, entryStore, stateTo, valueTo, keptTo}
 use Rattle.table.specs.View.{Entry, View, current, kept, live}
-use Rattle.counting.specs.First.{first}
+use Rattle.counting.specs.Counting.{first}
 use Rattle.entries.specs.Frames.{frameFree}
 use Rattle.homes.specs.declared.places.Place.{Place}
 use Rattle.homes.specs.declared.places.Place.the-variants.{Current, Kept}

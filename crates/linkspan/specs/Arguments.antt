@@ -5,7 +5,7 @@ use mathlib.Core.List.{List}
 use lib.Dec.{ltb}
 use Rattle.homes.specs.Places.{placeBy}
 use Rattle.homes.specs.Evict.{evictOf}
-use Rattle.survivors.specs.Lost.{lostBy}
+use Rattle.survivors.specs.Survivors.{lostBy}
 use Rattle.recovery.specs.Recover.{recoverOf}
 use Rattle.linkspan.specs.Report.{Asked, malformed, planned}
 

@@ -4,8 +4,7 @@ use Prim.Native.Nat.{ℕ, zero, suc, _-_}
 use mathlib.Core.Bool.{Bool, cond, _&&_}
 use mathlib.Core.List.{List, [], _∷_, _++_, map}
 use lib.Dec.{eqb}
-use Rattle.counting.specs.Counting.{count}
-use Rattle.counting.specs.First.{first}
+use Rattle.counting.specs.Counting.{count, first}
 use Rattle.table.specs.declared.geometry.Geometry.{Geometry}
 use Rattle.table.specs.Words.{invalid, sharedCK}
 use Rattle.table.specs.Changes.{checkpointOf}

@@ -8,7 +8,7 @@ use Rattle.table.specs.declared.geometry.Geometry.{Geometry}
 use Rattle.table.specs.declared.answers.Refusal.the-variants.{NotSound, NoNode, TooFewNodes, NoRecoveryCopy, ShortScratch}
 use Rattle.table.specs.Stores.{Store}
 use Rattle.table.specs.View.{View, view, updates}
-use Rattle.table.specs.Answers.{Plan, refuse, nothingLeft, carry}
+use Rattle.table.specs.Answers.{Plan, refuse, nothingLeft, carry, Meets}
 use Rattle.entries.specs.declared.check.Checked.{Checked}
 use Rattle.entries.specs.declared.check.Checked.the-variants.{Passed, Failed}
 use Rattle.entries.specs.Sound.{marksForm, nodesSound}
@@ -23,6 +23,8 @@ use Rattle.recovery.specs.Rolling.{rollStores}
 use Rattle.recovery.specs.Numbering.{numberStores}
 use Rattle.recovery.specs.Partners.{partnersStores}
 use Rattle.survivors.specs.ClosingMarks.{closingStores}
+use mathlib.Core.Path.{_≡_}
+use Rattle.table.specs.declared.answers.Answer.{Answer}
 
 -- ---- the stores
 
@@ -74,3 +76,8 @@ abbrev pub scratchAfter : Plan → List ℕ → List ℕ
 scratchAfter (refuse r) s = s
 scratchAfter nothingLeft s = s
 scratchAfter (carry g x ss) s = replicate (scratchWords g) 0 ++ drop (scratchWords g) s
+
+-- THE CONTRACT of a recovery: what any call owes, and the scratch
+pub record RecoverMeets (p : Plan) (limit : ℕ) (t t′ s s′ : List ℕ) (r : Answer) : Type 0 where
+  pub meets : Meets p limit t t′ r
+  pub scratch : s′ ≡ scratchAfter p s

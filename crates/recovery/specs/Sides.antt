@@ -8,8 +8,7 @@ use Rattle.table.specs.declared.geometry.Geometry.{Geometry}
 use Rattle.table.specs.declared.changes.Event.{Event}
 use Rattle.table.specs.declared.changes.Event.the-variants.{RollBack, RollForward}
 use Rattle.table.specs.View.{Entry, View, live}
-use Rattle.table.specs.Copies.{Copy, backCopy, copyNumber, copyValue}
-use Rattle.checkpoints.specs.Forward.{forwardCopy}
+use Rattle.table.specs.Copies.{Copy, backCopy, copyNumber, copyValue, forwardCopy}
 use Rattle.survivors.specs.Direction.{forwardIn}
 
 -- the column of the state table

@@ -1,5 +1,4 @@
 -- What only the contracts of private functions cite.
--- ---- the ways of the code
 pub mod SidesCode
 pub mod Tallies
 pub mod Notes
@@ -12,5 +11,4 @@ pub mod PartnersCounts
 pub mod PartnersCode
 pub mod PartnersSkip
 pub mod RecoverCode
--- ---- what survivors must have, and that every cut of a recovery keeps it, stage by stage
 pub mod PairsCode

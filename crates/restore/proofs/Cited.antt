@@ -16,8 +16,7 @@ use Rattle.checkpoints.specs.Open.{openOf}
 use Rattle.checkpoints.specs.Create.{createOf}
 use Rattle.checkpoints.specs.Commit.{commitOf}
 use Rattle.checkpoints.specs.Abandon.{abandonOf}
-use Rattle.recovery.specs.Recover.{recoverOf}
-use Rattle.recovery.specs.RecoverCode.{RecoverMeets}
+use Rattle.recovery.specs.Recover.{recoverOf, RecoverMeets}
 use Rattle.restore.specs.CallCode.{CarriedOut}
 use Rattle.restore.specs.Rehearsed.{Rehearsed}
 use Rattle.layout.proofs.format.format as format

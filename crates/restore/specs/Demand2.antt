@@ -24,7 +24,7 @@ use Rattle.homes.specs.Evict.{evictOf}
 use Rattle.entries.specs.Dirty.{ownerOf, dirtyItem}
 use Rattle.checkpoints.specs.Checkpoint.{openAdmission}
 use Rattle.checkpoints.specs.Create.{sharerOf, createOf}
-use Rattle.counting.specs.Exists.{exists}
+use Rattle.counting.specs.Counting.{exists}
 use Rattle.restore.specs.Memory.{Memory, valueIn, savedIn}
 use Rattle.restore.specs.Run.{Step, geometryIn, isFormat, planAt}
 use Rattle.restore.specs.History.{History, lastWritten}

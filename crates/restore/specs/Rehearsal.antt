@@ -18,7 +18,7 @@ use Rattle.survivors.specs.declared.lost.Lost.{Lost}
 use Rattle.survivors.specs.declared.lost.Lost.the-variants.{Nobody, Node}
 use Rattle.restore.specs.declared.call.Call.{Call}
 use Rattle.restore.specs.declared.call.Call.the-variants.{Format, Check, Stretch, Read, Write, Evict, Open, Create, Commit, Abandon, Recover}
-use Rattle.survivors.specs.Lost.{lostBy}
+use Rattle.survivors.specs.Survivors.{lostBy}
 use Rattle.recovery.specs.Recover.{scratchWords, recoverOf}
 use Rattle.restore.specs.Run.{Step, geometryIn, wholeTable, planAt, run, Formatted}
 use Rattle.restore.specs.Strike.{canBeCut, liveOrNone, Attempt, brokenOff}

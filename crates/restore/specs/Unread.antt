@@ -5,7 +5,7 @@ use mathlib.Core.Path.{_≡_}
 use mathlib.Core.Bool.{Bool, false, not, _&&_}
 use mathlib.Core.List.{List}
 use lib.ListN.{length, getD}
-use Rattle.counting.specs.Exists.{exists}
+use Rattle.counting.specs.Counting.{exists}
 use Rattle.table.specs.declared.geometry.Geometry.{Geometry}
 use Rattle.table.specs.View.{View, view, live}
 use Rattle.survivors.specs.declared.lost.Lost.{Lost}

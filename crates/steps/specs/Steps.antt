@@ -4,7 +4,7 @@ use mathlib.Core.Bool.{cond, _&&_, _||_}
 use lib.Dec.{eqb}
 use Rattle.table.specs.Words.{sizeForm, nodesOf, itemsOf, framesOf}
 use Rattle.homes.specs.Places.{placeBy}
-use Rattle.survivors.specs.Lost.{lostBy}
+use Rattle.survivors.specs.Survivors.{lostBy}
 use Rattle.restore.specs.declared.call.Call.{Call}
 use Rattle.restore.specs.declared.call.Call.the-variants.{Format, Read, Write, Evict, Open, Create, Commit, Abandon, Recover}
 use Rattle.steps.specs.declared.decode.Step.{Step}

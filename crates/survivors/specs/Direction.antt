@@ -2,7 +2,7 @@
 use Prim.Native.Nat.{ℕ}
 use mathlib.Core.Bool.{Bool, _&&_}
 use lib.Dec.{eqb}
-use Rattle.counting.specs.Exists.{exists}
+use Rattle.counting.specs.Counting.{exists}
 use Rattle.table.specs.declared.geometry.Geometry.{Geometry}
 use Rattle.table.specs.Words.{phaseOf}
 use Rattle.table.specs.View.{View, live}

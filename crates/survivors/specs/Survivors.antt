@@ -1,17 +1,16 @@
 -- "Recover, with a lost node or none: the lost mark to 0, stored even if it is 0 already, so that a dead node may be named. Survivors are the live
 -- nodes but the lost one."
 use Prim.Native.Nat.{ℕ, _-_, _*_}
-use mathlib.Core.Bool.{Bool, false, _&&_, _||_}
+use mathlib.Core.Bool.{Bool, false, _&&_, _||_, cond}
 use mathlib.Core.List.{List, [], _∷_}
 use lib.Dec.{eqb, leb, ltb}
-use Rattle.counting.specs.Counting.{count}
+use Rattle.counting.specs.Counting.{count, exists}
 use Rattle.table.specs.declared.geometry.Geometry.{Geometry}
 use Rattle.table.specs.Words.{numberOf}
 use Rattle.table.specs.Stores.{Store, markStore}
 use Rattle.table.specs.View.{View, live, updates}
 use Rattle.survivors.specs.declared.lost.Lost.{Lost}
 use Rattle.survivors.specs.declared.lost.Lost.the-variants.{Nobody, Node}
-use Rattle.counting.specs.Exists.{exists}
 
 -- "the lost mark to 0, stored even if it is 0 already"
 abbrev pub lostStores : Lost → List Store
@@ -43,3 +42,9 @@ tooFewWith g k = ltb k 2 || ltb ((k - 1) * g .frames) (2 * g .items - 1)
 
 unfoldable pub tooFew : Geometry → View → Bool
 tooFew g w = tooFewWith g (survivorCount g w)
+
+-- ---- the node that a Recover names, or none, by a number and a node
+
+-- "in Recover 1 means none lost". Who takes no number but 0 and 1 says so before.
+unfoldable pub lostBy : ℕ → ℕ → Lost
+lostBy none n = cond (eqb none 0) (Node n) Nobody

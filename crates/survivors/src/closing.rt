@@ -3,7 +3,7 @@ ghost use mathlib.Core.Path.{_≡_};
 ghost use Prim.Native.Nat.{max};
 ghost use Rattle.table.specs.Stores.{Stored};
 ghost use Rattle.table.specs.View.{view};
-ghost use Rattle.table.specs.MarksPass.{markTo, marksTo};
+ghost use Rattle.table.specs.Pass.{markTo, marksTo};
 ghost use Rattle.survivors.specs.Survivors.{survivors};
 ghost use Rattle.survivors.specs.ClosingMarks.{largestNumber, closingStores};
 use crate::lost::Lost;

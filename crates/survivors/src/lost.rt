@@ -1,6 +1,6 @@
 // The node that a Recover names, or that it names none.
 ghost use mathlib.Core.Path.{_≡_};
-ghost use Rattle.survivors.specs.Lost.{lostBy};
+ghost use Rattle.survivors.specs.Survivors.{lostBy};
 
 pub enum Lost {
     Nobody,

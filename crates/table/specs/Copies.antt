@@ -1,8 +1,10 @@
--- The recovery copy of an entry when a checkpoint is rolled back to: a Shared-CK in its current place, else an Inv-CK in its kept place.
+-- The recovery copy of an entry. Rolled back to: a Shared-CK in its current place, else an Inv-CK in its kept place.
+-- Rolled forward to: a Shared-CK or a Precommit in its current place.
 use Prim.Native.Nat.{ℕ}
 use mathlib.Core.Bool.{cond}
 use lib.Dec.{eqb}
-use Rattle.table.specs.Changes.{checkpointOf}
+use Rattle.table.specs.declared.changes.Event.the-variants.{RollForward}
+use Rattle.table.specs.Changes.{changeOf, checkpointOf}
 use Rattle.table.specs.View.{Entry, current, kept}
 
 -- a number, 1 or 2, and a value
@@ -17,6 +19,10 @@ backBy number k x y = cond (eqb number 0) (cond (eqb k 0) noCopy (copyOf k y)) (
 -- the back view of an entry
 abbrev pub backCopy : Entry → Copy
 backCopy e = backBy (checkpointOf (current e)) (kept e) (e .value) (e .keptValue)
+
+-- the forward view of an entry: its number is that of the Shared-CK which "roll forward" makes of the current place
+abbrev pub forwardCopy : Entry → Copy
+forwardCopy e = backBy (checkpointOf (changeOf (current e) RollForward)) 0 (e .value) (e .keptValue)
 
 -- its number, 0 for none; and its value
 abbrev pub copyNumber : Copy → ℕ

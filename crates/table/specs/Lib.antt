@@ -5,7 +5,6 @@ pub mod Changes
 pub mod Stores
 pub mod View
 pub mod Pass
-pub mod MarksPass
 pub mod Copies
 pub mod Answers
 pub mod code

@@ -11,7 +11,7 @@ use Rattle.table.specs.Stores.{Store, after}
 use Rattle.table.specs.View.{View, view, live}
 use Rattle.table.proofs.Laws.Via.{Via, via-cut, via-whole, via-then, via-loosen, via-weaken}
 use Rattle.table.proofs.Laws.Pass.{Steps}
-use Rattle.table.specs.MarksPass.{marksTo}
+use Rattle.table.specs.Pass.{marksTo}
 use Rattle.table.proofs.Laws.MarksPass.{Mixed, marks-via}
 use Rattle.table.specs.Answers.{carry}
 use Rattle.entries.proofs.Laws.SoundFacts.{SoundTable, phaseIn, numberIn}

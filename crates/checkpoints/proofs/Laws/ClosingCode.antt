@@ -7,7 +7,7 @@ use native.Mathlib.Omega.{arith}
 use native.Mathlib.Nat.{mod-mod}
 use lib.Dec.{eqb}
 use lib.ListN.{length}
-use Rattle.counting.specs.First.{first}
+use Rattle.counting.specs.Counting.{first}
 use Rattle.counting.proofs.Laws.First.{first-passes, first-below}
 use Rattle.table.specs.declared.geometry.Geometry.{Geometry}
 use Rattle.table.specs.Geometry.{wordsOf}
@@ -17,7 +17,7 @@ use Rattle.table.proofs.Laws.Stores.{runs-ext, stored-then, stored-as}
 use Rattle.table.specs.View.{Entry, View, view, live}
 use Rattle.table.proofs.Laws.Pass.{grid-within, grid-once}
 use Rattle.table.proofs.Laws.PassLeaves.{pass-marks}
-use Rattle.table.specs.MarksPass.{markTo, marksTo}
+use Rattle.table.specs.Pass.{markTo, marksTo}
 use Rattle.table.proofs.Laws.MarksPass.{marks-as, marks-leave, marks-live}
 use Rattle.entries.specs.declared.check.Checked.the-variants.{Passed}
 use Rattle.entries.specs.Check.{faultOf}

@@ -18,7 +18,7 @@ use Rattle.table.specs.Changes.{changeOf}
 use Rattle.table.specs.Stores.{Change, stateTo, Store, markStore, entryStore, runs}
 use Rattle.table.proofs.Laws.Stores.{runs-sum, nested-flat}
 use Rattle.table.specs.View.{View, view, live, current, kept}
-use Rattle.table.specs.MarksPass.{markTo, marksTo}
+use Rattle.table.specs.Pass.{markTo, marksTo}
 use Rattle.table.specs.Answers.{carry}
 use Rattle.entries.specs.Tally.{has, hasKept, countsOf}
 use Rattle.entries.specs.Items.{isCreated}

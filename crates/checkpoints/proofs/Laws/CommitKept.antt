@@ -10,12 +10,11 @@ use Rattle.counting.proofs.Laws.Tests.{by-cases}
 use Rattle.table.specs.declared.geometry.Geometry.{Geometry}
 use Rattle.table.specs.Words.{stateForm}
 use Rattle.table.specs.View.{View, live}
-use Rattle.table.specs.Copies.{backCopy}
+use Rattle.table.specs.Copies.{backCopy, forwardCopy}
 use Rattle.table.proofs.Laws.MarksPass.{Mixed, marks-live}
 use Rattle.entries.specs.Frames.{setsOf, setFrames, used}
 use Rattle.checkpoints.specs.Commit.{committingMark, committedMark}
 use Rattle.homes.proofs.Laws.Kept.{Live, test-live}
-use Rattle.checkpoints.specs.Forward.{forwardCopy}
 use Rattle.checkpoints.proofs.Laws.CommitEntry.{committed}
 
 -- ---- v at entry, w at the cut

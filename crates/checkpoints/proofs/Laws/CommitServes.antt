@@ -12,13 +12,12 @@ use Rattle.table.proofs.Laws.Words.{current-state}
 use Rattle.table.specs.Changes.{changeOf}
 use Rattle.table.specs.Stores.{Store, after}
 use Rattle.table.specs.View.{Entry, View, view, current}
-use Rattle.table.specs.Copies.{copyNumber, copyValue}
+use Rattle.table.specs.Copies.{copyNumber, copyValue, forwardCopy}
 use Rattle.table.specs.Answers.{carry}
 use Rattle.entries.proofs.Laws.CheckFacts.{Accepted}
 use Rattle.checkpoints.specs.Closing.{commits}
 use Rattle.checkpoints.specs.Commit.{commitOf}
 use Rattle.homes.proofs.Laws.Kept.{Live}
-use Rattle.checkpoints.specs.Forward.{forwardCopy}
 use Rattle.checkpoints.proofs.Laws.Forward.{forward-number, forward-value}
 use Rattle.checkpoints.proofs.Laws.CommitEntry.{committedBy, committed}
 use Rattle.checkpoints.proofs.Laws.CommitKept.{CommitEnd}

@@ -10,7 +10,7 @@ use Rattle.table.specs.Words.{numberOf, markWord}
 use Rattle.table.specs.View.{View, live}
 use Rattle.table.proofs.Laws.Via.{Via, via-then, via-loosen, via-weaken}
 use Rattle.table.proofs.Laws.Pass.{Steps}
-use Rattle.table.specs.MarksPass.{marksTo}
+use Rattle.table.specs.Pass.{marksTo}
 use Rattle.table.proofs.Laws.MarksPass.{Mixed, Marking, marks-via}
 use Rattle.entries.proofs.Laws.SoundFacts.{SoundTable}
 use Rattle.checkpoints.specs.declared.checkpoint.Closing.the-variants.{Committed}

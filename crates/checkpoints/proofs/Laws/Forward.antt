@@ -1,4 +1,4 @@
--- The laws of `specs/Forward.antt`.
+-- The recovery copy of an entry when a checkpoint is rolled forward to: laws of `forwardCopy`.
 use Prim.Native.Nat.{ℕ, _<_}
 use mathlib.Core.Path.{_≡_, refl, _∙_}
 use mathlib.Core.Logic.{_≢_}
@@ -12,8 +12,7 @@ use Rattle.table.specs.declared.changes.Event.the-variants.{RollForward}
 use Rattle.table.specs.Words.{sharedCK1, sharedCK2, precommit1, precommit2}
 use Rattle.table.specs.Changes.{changeOf, checkpointOf}
 use Rattle.table.specs.View.{Entry, current}
-use Rattle.table.specs.Copies.{backBy, copyNumber, copyValue}
-use Rattle.checkpoints.specs.Forward.{forwardCopy}
+use Rattle.table.specs.Copies.{backBy, copyNumber, copyValue, forwardCopy}
 
 -- ---- the number and the value by the current place
 

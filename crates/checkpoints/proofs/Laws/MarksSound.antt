@@ -8,7 +8,7 @@ use native.Mathlib.Decide.{decLt}
 use lib.Dec.{eqb}
 use borrow.Author.Tests.{eqb-true, eqb-false}
 use Rattle.counting.proofs.Laws.Tests.{by-cases, both, no-both}
-use Rattle.counting.specs.First.{first}
+use Rattle.counting.specs.Counting.{first}
 use Rattle.counting.proofs.Laws.First.{first-passes, first-least}
 use Rattle.table.specs.declared.geometry.Geometry.{Geometry}
 use Rattle.table.specs.declared.answers.Refusal.the-variants.{CheckpointOpen, LastNumber, NoCheckpoint}
@@ -18,7 +18,7 @@ use Rattle.table.proofs.Laws.Forms.{mark-form}
 use Rattle.table.specs.Stores.{Change, markStore}
 use Rattle.table.proofs.Laws.Stores.{All, none, more, all-runs}
 use Rattle.table.specs.View.{Entry, View, live}
-use Rattle.table.specs.MarksPass.{markTo, marksTo}
+use Rattle.table.specs.Pass.{markTo, marksTo}
 use Rattle.entries.specs.Frames.{setsOf, setFrames, used}
 use Rattle.entries.proofs.Laws.Kinds.{Kind}
 use Rattle.entries.proofs.Laws.SoundFacts.{SoundTable}

@@ -5,7 +5,7 @@ use mathlib.Core.Bool.{Bool, true, false, cond, not, _&&_}
 use mathlib.Core.List.{List, [], _∷_, _++_, map}
 use lib.Dec.{eqb, ltb}
 use borrow.Author.Tests.{ltb-true, not-false}
-use Rattle.counting.specs.First.{first}
+use Rattle.counting.specs.Counting.{first}
 use Rattle.counting.proofs.Laws.Tests.{both, by-cases}
 use Rattle.counting.proofs.Laws.First.{first-passes}
 use Rattle.table.specs.declared.geometry.Geometry.{Geometry}
@@ -14,7 +14,7 @@ use Rattle.table.specs.Words.{shared, precommit2}
 use Rattle.table.specs.Stores.{Store, Change, entryStore}
 use Rattle.table.proofs.Laws.Stores.{runs-ext}
 use Rattle.table.specs.View.{Entry, View, live, current}
-use Rattle.table.specs.MarksPass.{markTo, marksTo}
+use Rattle.table.specs.Pass.{markTo, marksTo}
 use Rattle.table.specs.Answers.{Plan, refuse, nothingLeft, carry}
 use Rattle.entries.specs.Dirty.{ownsAt, ownerOf, dirtyItem, noneDirty}
 use Rattle.entries.proofs.Laws.Unread.{over, Agrees, Alike, same-first, same-found, same-owner, same-dirty}

@@ -8,7 +8,7 @@ use Rattle.table.specs.declared.geometry.Geometry.{Geometry}
 use Rattle.table.specs.Geometry.{wordsOf}
 use Rattle.table.specs.Stores.{Stored}
 use Rattle.table.specs.View.{view, live}
-use Rattle.table.specs.MarksPass.{marksTo}
+use Rattle.table.specs.Pass.{marksTo}
 use Rattle.checkpoints.specs.Checkpoint.{commonMark}
 
 -- ---- live marks agree

@@ -1,4 +1,4 @@
--- The laws of `specs/Exists.antt`.
+-- Whether a test holds of one of 0, 1, .. and n − 1: laws of `exists`.
 use Prim.Native.Nat.{ℕ, zero, suc, _+_, _≤_, _<_}
 use mathlib.Core.Path.{_≡_, refl, ap, _∙_}
 use mathlib.Core.Bool.{Bool, true, false, _||_}
@@ -6,7 +6,7 @@ use native.Mathlib.Omega.{arith}
 use native.Mathlib.Numerals.{add-one}
 use Rattle.counting.proofs.Laws.Tests.{by-cases, no-both, or-left, or-right, either}
 use Rattle.counting.proofs.Laws.Counting.{below}
-use Rattle.counting.specs.Exists.{exists}
+use Rattle.counting.specs.Counting.{exists}
 
 -- ---- as a loop goes
 

@@ -1,4 +1,4 @@
--- The laws of `specs/First.antt`.
+-- The first number below a bound that passes a test: laws of `first`.
 use Prim.Native.Nat.{ℕ, zero, suc, _+_, _<_, _≤_}
 use mathlib.Core.Path.{_≡_, refl, sym, ap, ap₂, _∙_}
 use mathlib.Core.Bool.{Bool, true, false, cond, not}
@@ -8,9 +8,8 @@ use native.Mathlib.Decide.{ℕ-discrete, decLt}
 use lib.Dec.{eqb, ltb}
 use borrow.Author.Tests.{eq-eqb, ne-eqb, lt-ltb, le-ltb, ltb-true, ltb-false}
 use Rattle.counting.proofs.Laws.Tests.{by-cases, bool-iff, no-both}
-use Rattle.counting.specs.Counting.{count}
+use Rattle.counting.specs.Counting.{count, firstOr, first}
 use Rattle.counting.proofs.Laws.Counting.{count-zero, none-counted, Only}
-use Rattle.counting.specs.First.{firstOr, first}
 
 -- ---- a searching loop: before the first turn, one turn more, and found
 

@@ -7,9 +7,8 @@ use native.Mathlib.Omega.{arith}
 use lib.Dec.{eqb, ltb}
 use lib.ListN.{getD}
 use Rattle.counting.proofs.Laws.Tests.{both, by-cases, given, eqb-apart}
-use Rattle.counting.specs.Counting.{every, sum, count}
+use Rattle.counting.specs.Counting.{every, sum, count, first}
 use Rattle.counting.proofs.Laws.Counting.{every-at, every-back, every-back-ends, count-le, count-ext, count-or}
-use Rattle.counting.specs.First.{first}
 use Rattle.counting.proofs.Laws.First.{first-le, first-ext, found-counted, firstElse, else-starts, else-turns, else-ends}
 use Rattle.table.specs.declared.geometry.Geometry.{Geometry}
 use Rattle.table.specs.Words.{stateForm, phaseOf, owner, modified}

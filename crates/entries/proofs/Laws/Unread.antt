@@ -10,8 +10,7 @@ use lib.Dec.{leb, eqb, ltb}
 use borrow.Author.Tests.{eqb-true}
 use Rattle.counting.specs.Values.{Values}
 use Rattle.counting.proofs.Laws.Tests.{both, and-same, by-cases}
-use Rattle.counting.specs.Counting.{count}
-use Rattle.counting.specs.First.{first}
+use Rattle.counting.specs.Counting.{count, first}
 use Rattle.counting.proofs.Laws.Counting.{every-ext, sum-ext, count-ext}
 use Rattle.counting.proofs.Laws.First.{first-ext, first-passes}
 use Rattle.counting.proofs.Laws.Values.{values-ext}

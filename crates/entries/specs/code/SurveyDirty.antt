@@ -4,8 +4,7 @@ use mathlib.Core.Path.{_≡_}
 use mathlib.Core.Bool.{true, _&&_}
 use mathlib.Core.List.{List}
 use lib.ListN.{getD}
-use Rattle.counting.specs.Counting.{every}
-use Rattle.counting.specs.First.{first}
+use Rattle.counting.specs.Counting.{every, first}
 use Rattle.table.specs.declared.geometry.Geometry.{Geometry}
 use Rattle.table.specs.View.{View}
 use Rattle.entries.specs.declared.survey.Findings.{Findings}

@@ -13,7 +13,7 @@ use Rattle.table.specs.Stores.{Stored, StoredIn, entryStore, stateTo, valueTo, 
 use Rattle.table.proofs.Laws.Stores.{stored-then, stored-two, stored-as}
 use Rattle.table.specs.View.{View}
 use Rattle.counting.proofs.Laws.Tests.{by-cases}
-use Rattle.counting.specs.First.{first}
+use Rattle.counting.specs.Counting.{first}
 use Rattle.counting.proofs.Laws.First.{first-turns, first-found}
 use Rattle.entries.specs.Frames.{frameFree}
 use Rattle.homes.specs.declared.places.Place.{Place}

@@ -7,7 +7,7 @@ use Rattle.homes.specs.declared.places.Place.{Place}
 use Rattle.homes.specs.Places.{placeBy}
 use Rattle.homes.specs.Evict.{evictOf}
 use Rattle.survivors.specs.declared.lost.Lost.{Lost}
-use Rattle.survivors.specs.Lost.{lostBy}
+use Rattle.survivors.specs.Survivors.{lostBy}
 use Rattle.recovery.specs.Recover.{recoverOf}
 use Rattle.linkspan.specs.Report.{malformed, planned}
 use Rattle.linkspan.specs.Arguments.{evictAsked, recoverAsked}

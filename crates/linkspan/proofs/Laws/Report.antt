@@ -5,7 +5,7 @@ use mathlib.Core.List.{List}
 use Rattle.table.specs.declared.answers.Answer.{Answer}
 use Rattle.table.specs.declared.answers.Numbers.{Numbers}
 use Rattle.table.specs.Answers.{Plan, numbersOf, numbersAt, Meets, Told}
-use Rattle.recovery.specs.RecoverCode.{RecoverMeets}
+use Rattle.recovery.specs.Recover.{RecoverMeets}
 use Rattle.linkspan.specs.Report.{Asked, malformed, planned, malformedNumbers, HandedOut, Reports, RecoverReports}
 
 -- ---- the ways of the code

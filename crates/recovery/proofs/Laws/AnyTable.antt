@@ -18,7 +18,7 @@ use Rattle.entries.specs.Sound.{marksForm, statesForm, nodeSound, nodesSound}
 use Rattle.homes.proofs.Laws.Kept.{Live, live-test, test-live}
 use Rattle.homes.proofs.Laws.Serves.{Serves}
 use Rattle.survivors.specs.declared.lost.Lost.{Lost}
-use Rattle.counting.specs.Exists.{exists}
+use Rattle.counting.specs.Counting.{exists}
 use Rattle.counting.proofs.Laws.Exists.{exists-at, not-exists}
 use Rattle.survivors.specs.Survivors.{survivors}
 use Rattle.recovery.specs.Sides.{hasCopy, copiesOn, itemFits, itemsFit}

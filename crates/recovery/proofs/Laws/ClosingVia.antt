@@ -13,7 +13,7 @@ use Rattle.table.proofs.Laws.Words.{number-mark}
 use Rattle.table.proofs.Laws.Forms.{mark-form}
 use Rattle.table.specs.View.{View, live, current}
 use Rattle.table.proofs.Laws.Via.{Via, via-weaken}
-use Rattle.table.specs.MarksPass.{marksTo}
+use Rattle.table.specs.Pass.{marksTo}
 use Rattle.table.proofs.Laws.MarksPass.{Mixed, Marking, marks-via, marks-live}
 use Rattle.entries.specs.Frames.{used, framesAt}
 use Rattle.entries.specs.Tally.{has}

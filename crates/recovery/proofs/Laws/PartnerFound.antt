@@ -9,9 +9,8 @@ use native.Mathlib.Decide.{decLt}
 use lib.Dec.{eqb, ltb}
 use borrow.Author.Tests.{eqb-true, eq-eqb, ltb-true, ltb-false}
 use Rattle.counting.proofs.Laws.Tests.{both, no-both, by-cases, or-left, or-right, and-no-right}
-use Rattle.counting.specs.Counting.{one, sum, count}
+use Rattle.counting.specs.Counting.{one, sum, count, first}
 use Rattle.counting.proofs.Laws.Counting.{sum-ext, Only, only-counts, sum-swap, sum-count}
-use Rattle.counting.specs.First.{first}
 use Rattle.counting.proofs.Laws.First.{first-least, first-passes}
 use Rattle.table.specs.declared.geometry.Geometry.{Geometry}
 use Rattle.table.specs.Words.{invalid, sharedCK1, sharedCK2}

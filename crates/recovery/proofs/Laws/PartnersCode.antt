@@ -11,9 +11,8 @@ use lib.ListN.{length, getD, set, length-set}
 use lib.Seq.{drop-set-lt, getD-set-same, getD-set-other}
 use borrow.Author.Tests.{eq-eqb, ne-eqb, eqb-true, ltb-true, lt-ltb, le-ltb}
 use Rattle.counting.proofs.Laws.Tests.{both, no-both, by-cases}
-use Rattle.counting.specs.Counting.{count}
+use Rattle.counting.specs.Counting.{count, first}
 use Rattle.counting.proofs.Laws.Counting.{only}
-use Rattle.counting.specs.First.{first}
 use Rattle.counting.proofs.Laws.First.{first-turns, first-found, first-ends, first-le, first-least, first-passes, first-ext}
 use Rattle.table.specs.declared.geometry.Geometry.{Geometry}
 use Rattle.table.specs.Geometry.{wordsOf}

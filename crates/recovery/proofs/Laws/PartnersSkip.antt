@@ -8,9 +8,8 @@ use native.Mathlib.Omega.{arith}
 use lib.Dec.{eqb}
 use lib.ListN.{getD}
 use borrow.Author.Tests.{eqb-true}
-use Rattle.counting.specs.Counting.{count}
+use Rattle.counting.specs.Counting.{count, first}
 use Rattle.counting.proofs.Laws.Counting.{count-ext}
-use Rattle.counting.specs.First.{first}
 use Rattle.counting.proofs.Laws.First.{first-le, first-ext}
 use Rattle.table.specs.declared.geometry.Geometry.{Geometry}
 use Rattle.table.specs.Geometry.{entryAt, markAt}

@@ -11,10 +11,9 @@ use Rattle.table.specs.Words.{sharedCK1, sharedCK2}
 use Rattle.table.specs.Changes.{changeOf, checkpointOf}
 use Rattle.table.proofs.Laws.Changes.{checkpoint-code}
 use Rattle.table.specs.View.{Entry, View, current}
-use Rattle.table.specs.Copies.{backBy, backCopy, copyNumber, copyValue}
+use Rattle.table.specs.Copies.{backBy, backCopy, copyNumber, copyValue, forwardCopy}
 use Rattle.table.proofs.Laws.Copies.{back-number}
 use Rattle.homes.proofs.Laws.Kept.{Live}
-use Rattle.checkpoints.specs.Forward.{forwardCopy}
 use Rattle.checkpoints.proofs.Laws.Forward.{forward-value}
 use Rattle.recovery.specs.Sides.{copyOn}
 use Rattle.recovery.proofs.Laws.Ready.{Sided, PlainEntry, HasOne}

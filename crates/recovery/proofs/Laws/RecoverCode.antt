@@ -1,4 +1,4 @@
--- The laws of `specs/RecoverCode.antt`.
+-- Recover as its code goes: what it admits, and a law for each way out.
 use Prim.Native.Nat.{ℕ, _+_, _-_, _≤_, _<_}
 use mathlib.Core.Path.{_≡_, refl, sym, ap, _∙_}
 use mathlib.Core.Bool.{Bool, true, false, not}
@@ -36,8 +36,7 @@ use Rattle.recovery.specs.code.RollingCode.{Rolled}
 use Rattle.recovery.specs.code.Census.{Takable, Taken}
 use Rattle.recovery.specs.code.PairsCode.{Pairable, Pairs}
 use Rattle.recovery.proofs.Laws.PairsCode.{rolled-pairable}
-use Rattle.recovery.specs.Recover.{recoverStores, scratchWords, survivorsFormed, recoverAdmission, recoverChecked, recoverOf}
-use Rattle.recovery.specs.RecoverCode.{RecoverMeets}
+use Rattle.recovery.specs.Recover.{recoverStores, scratchWords, survivorsFormed, recoverAdmission, recoverChecked, recoverOf, RecoverMeets}
 use Rattle.recovery.specs.code.RecoverCode.{Recovers, Carriable, Roomy, StoresReady, RestoreReady, StagesStored}
 
 -- ---- the refusals, one by one

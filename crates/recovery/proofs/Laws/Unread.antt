@@ -18,7 +18,7 @@ use Rattle.table.specs.Stores.{Store, sizeStore, markStore, entryStore}
 use Rattle.table.proofs.Laws.Stores.{All, none, more, runs-ext}
 use Rattle.table.specs.View.{Entry, View, view, live, current, update, updates}
 use Rattle.table.specs.Copies.{copyNumber, copyValue}
-use Rattle.table.specs.MarksPass.{markTo, marksTo}
+use Rattle.table.specs.Pass.{markTo, marksTo}
 use Rattle.table.specs.Answers.{Plan, carry}
 use Rattle.entries.specs.declared.check.Checked.{Checked}
 use Rattle.entries.specs.declared.check.Checked.the-variants.{Passed, Failed}

@@ -18,8 +18,7 @@ use Rattle.checkpoints.specs.Abandon.{abandonOf}
 use Rattle.survivors.specs.declared.lost.Lost.{Lost}
 use Rattle.restore.specs.declared.call.Call.{Call}
 use Rattle.restore.specs.declared.call.Call.the-variants.{Format, Check, Stretch, Read, Write, Evict, Open, Create, Commit, Abandon, Recover}
-use Rattle.recovery.specs.Recover.{recoverOf}
-use Rattle.recovery.specs.RecoverCode.{RecoverMeets}
+use Rattle.recovery.specs.Recover.{recoverOf, RecoverMeets}
 use Rattle.restore.specs.Call.{planOf}
 use Rattle.restore.specs.CallCode.{CarriedOut}
 

@@ -30,7 +30,7 @@ use Rattle.checkpoints.specs.Checkpoint.{isPrecommit, entriesTo}
 use Rattle.checkpoints.specs.Closing.{commits, commitChange, abandonChange, closeChange}
 use Rattle.checkpoints.specs.Commit.{committingMark, committedMark, commitStores}
 use Rattle.checkpoints.specs.Abandon.{runningMark, abandonStores}
-use Rattle.table.specs.MarksPass.{marksTo}
+use Rattle.table.specs.Pass.{marksTo}
 use Rattle.restore.proofs.Laws.Lengths.{cond-short, then-short, changes-short, pass-short, marks-short, entries-short}
 
 -- ---- Format: "all 1 + N + 3 × N × M words"

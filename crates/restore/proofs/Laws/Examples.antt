@@ -1,13 +1,12 @@
 -- The laws of `specs/Examples.antt`.
 use mathlib.Core.Path.{refl}
-use Rattle.counting.specs.Counting.{every, sum, count}
-use Rattle.counting.specs.First.{first, firstOr}
+use Rattle.counting.specs.Counting.{every, sum, count, exists, first, firstOr}
 use Rattle.counting.specs.Values.{valuesOf}
 use Rattle.table.specs.Geometry.{geometryOf}
 use Rattle.table.specs.Changes.{changeOf}
 use Rattle.table.specs.Stores.{runs, after}
 use Rattle.table.specs.View.{view}
-use Rattle.table.specs.MarksPass.{markTo, marksTo}
+use Rattle.table.specs.Pass.{markTo, marksTo}
 use Rattle.table.specs.Copies.{backBy}
 use Rattle.layout.specs.Format.{firstEntries, formatStores, formatMade}
 use Rattle.entries.specs.Frames.{framesIn, framesAt, used, framesFit}
@@ -27,7 +26,6 @@ use Rattle.homes.specs.Evict.{sourceStores, movedTo, evictStores, placeAdmissio
 use Rattle.checkpoints.specs.Open.{startAdmission}
 use Rattle.checkpoints.specs.Create.{sharesAt, sharerOf, partnerStores as createdPartner, createItem, noPartner, createPlan}
 use Rattle.checkpoints.specs.Commit.{commitStores, createdAdmission}
-use Rattle.counting.specs.Exists.{exists}
 use Rattle.survivors.specs.Survivors.{survivorCount, tooFewWith, tooFew}
 use Rattle.recovery.specs.Sides.{copiesOn, itemFits, itemsFit}
 use Rattle.survivors.specs.Direction.{forwardIn}

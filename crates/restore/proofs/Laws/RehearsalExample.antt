@@ -8,19 +8,18 @@ use lib.ListN.{replicate}
 use Rattle.survivors.specs.declared.lost.Lost.the-variants.{Node}
 use Rattle.restore.specs.declared.call.Call.the-variants.{Format, Write, Open, Create, Commit}
 use Rattle.restore.specs.Memory.{savedIn}
-use Rattle.restore.specs.Run.{commitsFrom, memoryFrom, Formatted, tableBy}
+use Rattle.restore.specs.Run.{commitsFrom, memoryFrom, Formatted, tableBy, run}
 use Rattle.restore.specs.Rehearsal.{callBy, callAt, stepsTo, nodeWordAt, putTo, hitNode, hitSized, hitBy, Script, wholeCalls, Demanded}
 use Rattle.restore.specs.Rehearsed.{strike, tooFewLeft}
 use Rattle.restore.proofs.Laws.RehearsalHit.{hit-struck}
 use Rattle.restore.specs.Demand3.{memory}
-use Rattle.counting.specs.Counting.{every, sum, count}
-use Rattle.counting.specs.First.{first, firstOr}
+use Rattle.counting.specs.Counting.{every, sum, count, exists, first, firstOr}
 use Rattle.counting.specs.Values.{valuesOf}
 use Rattle.table.specs.Geometry.{geometryOf}
 use Rattle.table.specs.Changes.{changeOf}
 use Rattle.table.specs.Stores.{runs, after}
 use Rattle.table.specs.View.{view}
-use Rattle.table.specs.MarksPass.{markTo, marksTo}
+use Rattle.table.specs.Pass.{markTo, marksTo}
 use Rattle.table.specs.Copies.{backBy}
 use Rattle.layout.specs.Format.{firstEntries, formatStores, formatMade}
 use Rattle.entries.specs.Frames.{framesIn, framesAt, used, framesFit}
@@ -41,9 +40,7 @@ use Rattle.homes.specs.Evict.{sourceStores, movedTo, evictStores, placeAdmissio
 use Rattle.checkpoints.specs.Open.{startAdmission}
 use Rattle.checkpoints.specs.Create.{sharesAt, sharerOf, partnerStores as createdPartner, createItem, noPartner, createPlan}
 use Rattle.checkpoints.specs.Commit.{commitStores, createdAdmission}
-use Rattle.counting.specs.Exists.{exists}
-use Rattle.survivors.specs.Lost.{lostBy}
-use Rattle.survivors.specs.Survivors.{survivorCount, tooFewWith, tooFew}
+use Rattle.survivors.specs.Survivors.{lostBy, survivorCount, tooFewWith, tooFew}
 use Rattle.recovery.specs.Sides.{copiesOn, itemFits, itemsFit}
 use Rattle.survivors.specs.Direction.{forwardIn}
 use Rattle.recovery.specs.Rolling.{bringBack, settled, rollChange, rollStores}
@@ -52,7 +49,6 @@ use Rattle.recovery.specs.Partners.{single, holderOf, takes, takesAfter, partne
 use Rattle.survivors.specs.ClosingMarks.{largest, largestNumber, closingStores}
 use Rattle.recovery.specs.Recover.{followed, survivorStores, recoverStores, survivorsFormed, recoverAdmission, recoverChecked, recoverOf}
 use Rattle.restore.specs.Call.{planOf}
-use Rattle.restore.specs.Run.{run}
 
 -- 3 nodes, 1 item, 2 frames
 abbrev pub formattedTable : List ℕ

@@ -26,10 +26,9 @@ use Rattle.survivors.specs.declared.lost.Lost.{Lost}
 use Rattle.survivors.specs.declared.lost.Lost.the-variants.{Nobody, Node}
 use Rattle.restore.specs.declared.call.Call.{Call}
 use Rattle.restore.specs.declared.call.Call.the-variants.{Format, Check, Stretch, Read, Write, Evict, Open, Create, Commit, Abandon, Recover}
-use Rattle.survivors.specs.Lost.{lostBy}
-use Rattle.recovery.specs.Recover.{recoverOf}
+use Rattle.survivors.specs.Survivors.{lostBy}
+use Rattle.recovery.specs.Recover.{recoverOf, RecoverMeets}
 use Rattle.recovery.proofs.Laws.RecoverPlan.{recover-carries, carries-recover}
-use Rattle.recovery.specs.RecoverCode.{RecoverMeets}
 use Rattle.restore.specs.Call.{planOf, accepted}
 use Rattle.restore.specs.CallCode.{CarriedOut}
 use Rattle.restore.specs.Run.{storeCount, wholeTable, tableBy, run}

@@ -6,10 +6,9 @@ use mathlib.Core.Bool.{Bool, true, false}
 use Rattle.table.specs.declared.geometry.Geometry.{Geometry}
 use Rattle.table.specs.Words.{stateForm, markForm}
 use Rattle.table.specs.View.{View, live}
-use Rattle.table.specs.Copies.{copyNumber, copyValue, backCopy}
+use Rattle.table.specs.Copies.{copyNumber, copyValue, backCopy, forwardCopy}
 use Rattle.entries.specs.Frames.{setsOf, setFrames, used}
 use Rattle.homes.proofs.Laws.Kept.{Live, live-test, test-live}
-use Rattle.checkpoints.specs.Forward.{forwardCopy}
 use Rattle.survivors.specs.declared.lost.Lost.{Lost}
 use Rattle.survivors.specs.Survivors.{survivors}
 use Rattle.recovery.specs.Sides.{copyOn}

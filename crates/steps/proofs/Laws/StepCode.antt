@@ -8,7 +8,7 @@ use Rattle.table.specs.Words.{sizeForm, nodesOf, itemsOf, framesOf}
 use Rattle.homes.specs.declared.places.Place.{Place}
 use Rattle.homes.specs.Places.{placeBy}
 use Rattle.survivors.specs.declared.lost.Lost.{Lost}
-use Rattle.survivors.specs.Lost.{lostBy}
+use Rattle.survivors.specs.Survivors.{lostBy}
 use Rattle.restore.specs.declared.call.Call.{Call}
 use Rattle.restore.specs.declared.call.Call.the-variants.{Format, Read, Write, Evict, Recover}
 use Rattle.steps.specs.declared.decode.Step.{Step}

@@ -8,7 +8,7 @@ use Rattle.survivors.specs.declared.lost.Lost.the-variants.{Nobody, Node}
 use Rattle.restore.specs.declared.call.Call.the-variants.{Format, Read, Write, Evict, Open, Create, Commit, Abandon, Recover}
 use Rattle.steps.specs.declared.decode.Step.the-variants.{Asked, Malformed}
 use Rattle.homes.specs.Places.{placeBy}
-use Rattle.survivors.specs.Lost.{lostBy}
+use Rattle.survivors.specs.Survivors.{lostBy}
 use Rattle.steps.specs.Steps.{formatStep, readStep, writeStep, evictStep, bareStep, recoverStep, stepBy, stepOf}
 use Rattle.steps.specs.Records.{recordOf}
 

@@ -1,10 +1,10 @@
--- The laws of `specs/Lost.antt`.
+-- The node that a Recover names, or none: laws of `lostBy`.
 use Prim.Native.Nat.{ℕ}
 use mathlib.Core.Path.{_≡_, refl}
 use mathlib.Core.Logic.{_≢_}
 use borrow.Author.Tests.{eq-eqb, ne-eqb}
 use Rattle.survivors.specs.declared.lost.Lost.the-variants.{Nobody, Node}
-use Rattle.survivors.specs.Lost.{lostBy}
+use Rattle.survivors.specs.Survivors.{lostBy}
 
 -- ---- the ways of the code
 

@@ -1,4 +1,4 @@
--- The laws of `specs/MarksPass.antt`.
+-- A pass over the live marks, ascending: laws of `marksTo`.
 use Prim.Native.Nat.{ℕ, suc, _+_, _≤_, _<_}
 use mathlib.Core.Path.{_≡_, refl, sym, ap, _∙_, subst}
 use mathlib.Core.Logic.{_⊎_, inl, inr}
@@ -17,7 +17,7 @@ use Rattle.table.proofs.Laws.Stores.{runs-ext, loop-turns}
 use Rattle.table.specs.View.{View, view, live, update}
 use Rattle.table.proofs.Laws.Puts.{put₁-case}
 use Rattle.table.proofs.Laws.Via.{Via, done, step, via-runs, via-cut}
-use Rattle.table.specs.MarksPass.{markTo, marksTo}
+use Rattle.table.specs.Pass.{markTo, marksTo}
 
 -- the same words, said otherwise
 pub marks-as :

@@ -2,7 +2,7 @@
 use Prim.Native.Nat.{_≤_, _-_}
 use mathlib.Core.Path.{_≡_}
 use borrow.Author.Needs.{needs}
-use Rattle.counting.specs.First.{first}
+use Rattle.counting.specs.Counting.{first}
 use Rattle.counting.proofs.Laws.First.{first-starts}
 use Rattle.table.specs.View.{view, live}
 use Rattle.checkpoints.proofs.Laws.Checkpoint.{common-here, common-none, common-passes}

@@ -6,7 +6,7 @@ use Rattle.table.specs.Geometry.{wordsOf}
 use Rattle.table.specs.Stores.{Stored, runs}
 use Rattle.table.proofs.Laws.Stores.{loop-starts, loop-ends}
 use Rattle.table.specs.View.{view}
-use Rattle.table.specs.MarksPass.{markTo, marksTo}
+use Rattle.table.specs.Pass.{markTo, marksTo}
 use Rattle.table.proofs.Laws.MarksPass.{marks-turn}
 use borrow.Author.Needs.{needs}
 use Rattle.checkpoints.proofs.checkpoint.marks_to.Statement.{statement}

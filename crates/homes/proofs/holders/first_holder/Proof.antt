@@ -2,7 +2,7 @@
 use Prim.Native.Nat.{_≤_, _-_}
 use mathlib.Core.Path.{_≡_, sym, _∙_}
 use borrow.Author.Needs.{needs}
-use Rattle.counting.specs.First.{first}
+use Rattle.counting.specs.Counting.{first}
 use Rattle.counting.proofs.Laws.First.{first-starts, first-turns, first-found, first-ends}
 use Rattle.table.specs.View.{view}
 use Rattle.homes.specs.Holders.{holdsAt, firstHolder}

@@ -1,7 +1,7 @@
 -- `home_of` meets its contract: no node of the table; else the nodes passed over do not fit, and `h` is the next. Assumes nothing.
 use Prim.Native.Nat.{_≤_, _-_}
 use mathlib.Core.Path.{_≡_, _∙_}
-use Rattle.counting.specs.First.{first}
+use Rattle.counting.specs.Counting.{first}
 use Rattle.counting.proofs.Laws.First.{first-starts}
 use Rattle.table.specs.View.{view}
 use Rattle.homes.specs.Home.{nodeAfter, fitsAfter}

@@ -1,7 +1,7 @@
 -- `shared_item` meets its contract: no item below `item` is Shared there. Assumes nothing.
 use Prim.Native.Nat.{_≤_, _-_}
 use mathlib.Core.Path.{_≡_}
-use Rattle.counting.specs.First.{first}
+use Rattle.counting.specs.Counting.{first}
 use Rattle.counting.proofs.Laws.First.{first-starts}
 use Rattle.table.specs.View.{view}
 use Rattle.homes.specs.Home.{sharedAt}

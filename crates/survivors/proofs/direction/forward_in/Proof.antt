@@ -3,7 +3,7 @@ use Prim.Native.Nat.{_≤_, _-_}
 use mathlib.Core.Path.{_≡_}
 use Rattle.table.specs.View.{view}
 use Rattle.survivors.specs.Survivors.{survivors}
-use Rattle.counting.specs.Exists.{exists}
+use Rattle.counting.specs.Counting.{exists}
 use Rattle.counting.proofs.Laws.Exists.{exists-none, exists-next, exists-ends}
 use Rattle.survivors.specs.Direction.{commits, forwardIn}
 use borrow.Author.Needs.{needs}
