@@ -7,26 +7,26 @@
 //! Compiled with `--cfg stand_in`, the tuned Rust engine takes the library's place.
 
 mod calls;
+mod choices;
 mod library;
 mod random;
 mod reference;
 mod tables;
+mod twins;
 
 #[cfg(stand_in)]
 #[allow(dead_code)]
 mod stand_in;
 
-use calls::{Call, Compared, Twins, ANSWERS};
+use calls::{Call, ANSWERS};
+use choices::WHOLE;
 use random::Random;
 use tables::Geometry;
+use twins::{Compared, Twins};
 
 const DEFAULT_CALLS: u64 = 2_000_000;
 const DEFAULT_SEEDS: [u64; 4] = [1, 2, 3, 4];
 const SHOWN: u64 = 10;
-const WHOLE: u64 = u64::MAX;
-
-const RUNNING: u64 = 0;
-const CREATING: u64 = 1;
 
 /// What has been met so far.
 struct Tally {
@@ -91,150 +91,6 @@ impl Session<'_> {
         }
     }
 
-    /// A limit that may cut the call off.
-    fn any_limit(&mut self) -> u64 {
-        match self.random.below(8) {
-            0..=1 => WHOLE,
-            2..=4 => self.random.below(6),
-            5..=6 => self.random.below(40),
-            _ => self.random.one_of(&[0, 1, 1 << 16, 1 << 32, WHOLE - 1]),
-        }
-    }
-
-    fn any_value(&mut self) -> u64 {
-        if self.random.percent(50) {
-            self.random.below(4)
-        } else {
-            self.random.word()
-        }
-    }
-
-    fn any_node(&mut self, table: &[u64]) -> u64 {
-        let nodes = Geometry::of_table(table).nodes;
-        match self.random.below(10) {
-            0 => self.random.one_of(&[nodes, nodes + 1, 16, 255, 1 << 32, u64::MAX]),
-            _ => self.random.below(nodes.max(1)),
-        }
-    }
-
-    fn any_item(&mut self, table: &[u64]) -> u64 {
-        let items = Geometry::of_table(table).items;
-        match self.random.below(10) {
-            0 => self.random.one_of(&[items, items + 1, 256, 1 << 32, u64::MAX]),
-            _ => self.random.below(items.max(1)),
-        }
-    }
-
-    fn recovery(&mut self, table: &[u64]) -> Call {
-        let geometry = Geometry::of_table(table);
-        let enough = (geometry.nodes + geometry.items) as usize;
-        let scratch = match self.random.below(12) {
-            0 => enough.saturating_sub(1),
-            1 => self.random.index(enough + 1),
-            2..=4 => enough + self.random.index(9),
-            _ => enough,
-        };
-        let none = if self.random.percent(2) {
-            self.random.one_of(&[2, 3, 1 << 32, u64::MAX])
-        } else {
-            self.random.percent(40) as u64
-        };
-        Call::Recover { none, lost: self.any_node(table), scratch }
-    }
-
-    fn eviction(&mut self, table: &[u64]) -> Call {
-        let place =
-            if self.random.percent(3) { self.random.one_of(&[2, 3, 1 << 32, u64::MAX]) } else { self.random.below(2) };
-        Call::Evict { node: self.any_node(table), item: self.any_item(table), place }
-    }
-
-    fn formatting(&mut self) -> Call {
-        let geometry = match self.random.percent(50) {
-            true => tables::allowed_geometry(&mut self.random),
-            false => tables::any_geometry(&mut self.random),
-        };
-        Call::Format { nodes: geometry.nodes, items: geometry.items, frames: geometry.frames }
-    }
-
-    /// Any call with any arguments.
-    fn any_call(&mut self, table: &[u64]) -> Call {
-        match self.random.below(20) {
-            0 => {
-                let geometry = tables::any_geometry(&mut self.random);
-                Call::Words { nodes: geometry.nodes, items: geometry.items }
-            }
-            1 => Call::Check,
-            2 => Call::Stretch { node: self.any_node(table) },
-            3 => self.formatting(),
-            4..=5 => Call::Read { node: self.any_node(table), item: self.any_item(table) },
-            6..=7 => Call::Write { node: self.any_node(table), item: self.any_item(table), value: self.any_value() },
-            8..=9 => self.eviction(table),
-            10 => Call::Open,
-            11..=12 => Call::Create,
-            13 => Call::Commit,
-            14 => Call::Abandon,
-            _ => self.recovery(table),
-        }
-    }
-
-    /// A node and an item; if it can be found soon, ones whose copy suits.
-    fn look_for(&mut self, table: &[u64], suits: impl Fn(u64) -> bool) -> (u64, u64) {
-        let geometry = Geometry::of_table(table);
-        let mut found = (0, 0);
-        for _ in 0..8 {
-            found = (self.random.below(geometry.nodes), self.random.below(geometry.items));
-            if suits(table[geometry.entry(found.0, found.1)]) {
-                break;
-            }
-        }
-        found
-    }
-
-    /// A call that a table between checkpoints will mostly carry out.
-    fn running_call(&mut self, table: &[u64]) -> Call {
-        match self.random.below(100) {
-            0..=34 => {
-                let (node, item) = self.look_for(table, |word| word >> 60 == 0);
-                Call::Read { node, item }
-            }
-            35..=59 => {
-                let (node, item) = self.look_for(table, |_| true);
-                Call::Write { node, item, value: self.any_value() }
-            }
-            60..=72 => {
-                let (node, item) = self.look_for(table, |word| word >> 60 > 1);
-                Call::Evict { node, item, place: 0 }
-            }
-            73..=82 => {
-                let (node, item) = self.look_for(table, |word| word >> 58 & 3 != 0);
-                Call::Evict { node, item, place: 1 }
-            }
-            83..=92 => Call::Open,
-            _ => self.any_call(table),
-        }
-    }
-
-    /// A call that a table with an open checkpoint will mostly carry out.
-    fn creating_call(&mut self, table: &[u64]) -> Call {
-        match self.random.below(100) {
-            0..=64 => Call::Create,
-            65..=84 => Call::Commit,
-            85..=89 => Call::Abandon,
-            _ => self.any_call(table),
-        }
-    }
-
-    fn likely_call(&mut self, table: &[u64]) -> Call {
-        let geometry = Geometry::of_table(table);
-        let marks = &table[1..=geometry.nodes as usize];
-        let phase = marks.iter().find(|mark| **mark != 0).map_or(RUNNING, |mark| mark >> 61 & 3);
-        if phase == CREATING {
-            self.creating_call(table)
-        } else {
-            self.running_call(table)
-        }
-    }
-
     /// A formatted table, perhaps with words to spare.
     fn formatted(&mut self) -> Option<Twins> {
         let Geometry { nodes, items, frames } = tables::allowed_geometry(&mut self.random);
@@ -247,7 +103,7 @@ impl Session<'_> {
     /// Whole calls, one after the other; true if nothing differs.
     fn whole_calls(&mut self, twins: &mut Twins, count: u64) -> bool {
         (0..count).all(|_| {
-            let call = self.likely_call(&twins.table().to_vec());
+            let call = choices::likely_call(&mut self.random, &twins.table().to_vec());
             self.call(twins, call, WHOLE)
         })
     }
@@ -289,14 +145,14 @@ impl Session<'_> {
     }
 
     fn strike(&mut self, twins: &mut Twins) -> bool {
-        let mut cut = self.likely_call(&twins.table().to_vec());
+        let mut cut = choices::likely_call(&mut self.random, &twins.table().to_vec());
         if self.random.percent(40) && Geometry::of_table(twins.table()).items <= 12 {
             if !self.prepare_commit(twins) {
                 return false;
             }
             cut = Call::Commit;
         }
-        let limit = self.any_limit();
+        let limit = choices::any_limit(&mut self.random);
         if !self.call(twins, cut, limit) {
             return false;
         }
@@ -314,7 +170,7 @@ impl Session<'_> {
         }
         let recovery = Call::Recover { none: none as u64, lost, scratch: (nodes + items) as usize };
         for _ in 0..self.random.below(4) {
-            let limit = self.any_limit();
+            let limit = choices::any_limit(&mut self.random);
             if !self.call(twins, recovery, limit) {
                 return false;
             }
@@ -331,8 +187,8 @@ impl Session<'_> {
             tables::damage(&mut self.random, &mut table);
             twins.set(&table);
             for _ in 0..self.random.between(1, 3) {
-                let call = self.any_call(&twins.table().to_vec());
-                let limit = self.any_limit();
+                let call = choices::any_call(&mut self.random, &twins.table().to_vec());
+                let limit = choices::any_limit(&mut self.random);
                 if !self.call(&mut twins, call, limit) {
                     return false;
                 }
@@ -350,8 +206,8 @@ impl Session<'_> {
             tables::scatter(&mut self.random, &mut table);
             twins.set(&table);
             for _ in 0..self.random.between(1, 3) {
-                let call = self.recovery(&table);
-                let limit = self.any_limit();
+                let call = choices::recovery(&mut self.random, &table);
+                let limit = choices::any_limit(&mut self.random);
                 if !self.call(&mut twins, call, limit) {
                     return false;
                 }
@@ -365,8 +221,8 @@ impl Session<'_> {
         let words = tables::noise(&mut self.random);
         let mut twins = Twins::new(&words);
         for _ in 0..8 {
-            let call = self.any_call(&twins.table().to_vec());
-            let limit = self.any_limit();
+            let call = choices::any_call(&mut self.random, &twins.table().to_vec());
+            let limit = choices::any_limit(&mut self.random);
             if !self.call(&mut twins, call, limit) {
                 return false;
             }

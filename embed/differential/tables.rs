@@ -39,7 +39,8 @@ pub fn state(current: u64, kept: u64) -> u64 {
     current << 60 | kept << 58
 }
 
-fn fewest_frames(nodes: u64, items: u64) -> u64 {
+/// The fewest frames with which a geometry is allowed.
+pub fn fewest_frames(nodes: u64, items: u64) -> u64 {
     (2 * items - 1).div_ceil(nodes - 2)
 }
 
