@@ -54,7 +54,8 @@ fn fetch(
     table::stores::store_state(table, left, g, node, item, SHARED, kept)
 }
 
-// An admitted read: the node's own copy, or one fetched from the server. Owner, Modified and Shared-CK1, which serve, are codes 2 to 4.
+// An admitted read: the node's own copy, or one fetched from the server. Owner, Modified and Shared-CK1, which serve,
+// are codes 2 to 4.
 fn read_admitted(table: &mut [u64], g: Geometry, node: u8, item: u16, limit: u64) -> Answer
     ensures { λ r. ⌜ Meets (carry g (readValue g (view g (now (table .entry))) node item) (readStores g (view g (now (table .entry))) node item)) limit (now (table .entry)) (now (table .exit)) r ⌝ }
 {

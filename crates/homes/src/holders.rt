@@ -4,7 +4,8 @@ ghost use Rattle.table.specs.View.{view};
 ghost use Rattle.homes.specs.Holders.{holdsAt, firstHolder};
 use table::geometry::Geometry;
 
-// Whether a node is live and its current place of an item has a code from `low` to `high`; of a dead one nothing but its mark is read.
+// Whether a node is live and its current place of an item has a code from `low` to `high`; of a dead one nothing but
+// its mark is read.
 fn holds_at(table: &[u64], g: Geometry, item: u16, low: u8, high: u8, node: u8) -> bool
     ensures { λ r. ⌜ r ≡ holdsAt (view g (now (table .entry))) item low high node ⌝ }
 {

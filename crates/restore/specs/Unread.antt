@@ -1,5 +1,5 @@
--- "A dead node's words, mark apart, are never read", as one type: no call's answer and no store of its list rests on them; nor does Recover's on the
--- lost node's words, its mark included.
+-- "A dead node's words, mark apart, are never read", as one type: no call's answer and no store of its list rests on
+-- them; nor does Recover's on the lost node's words, its mark included.
 use Prim.Native.Nat.{ℕ}
 use mathlib.Core.Path.{_≡_}
 use mathlib.Core.Bool.{Bool, false, not, _&&_}
@@ -27,10 +27,14 @@ pub record SameButDead (t t′ : List ℕ) : Type 0 where
 -- or in the lost node's words too
 pub record SameButLost (lost : Lost) (t t′ : List ℕ) : Type 0 where
   pub size : length t′ ≡ length t
-  pub rest : (i : ℕ) → ofLost (geometryIn t) lost i ≡ false → ofDead (geometryIn t) (view (geometryIn t) t) i ≡ false → getD t′ i 0 ≡ getD t i 0
+  pub rest :
+      (i : ℕ) → ofLost (geometryIn t) lost i ≡ false → ofDead (geometryIn t) (view (geometryIn t) t) i ≡ false
+      → getD t′ i 0 ≡ getD t i 0
 
 -- "never read": the same plan, so the same answer, value and stores at every limit
 pub record Unread : Type 0 where
-  pub by-calls : (t t′ : List ℕ) → SameButDead t t′ → (scratch : ℕ) (call : Call) → planOf t′ scratch call ≡ planOf t scratch call
+  pub by-calls :
+      (t t′ : List ℕ) → SameButDead t t′ → (scratch : ℕ) (call : Call) → planOf t′ scratch call ≡ planOf t scratch call
   pub by-recover :
-      (lost : Lost) (t t′ : List ℕ) → SameButLost lost t t′ → (scratch : ℕ) → planOf t′ scratch (Recover lost) ≡ planOf t scratch (Recover lost)
+      (lost : Lost) (t t′ : List ℕ) → SameButLost lost t t′ → (scratch : ℕ)
+      → planOf t′ scratch (Recover lost) ≡ planOf t scratch (Recover lost)

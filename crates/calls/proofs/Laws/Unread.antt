@@ -1,12 +1,12 @@
 -- "A dead node's words, mark apart, are never read", by Read and Write: their plans do not rest on them.
 use Prim.Native.Nat.{ℕ}
 use mathlib.Core.Path.{_≡_, refl, ap, ap₂}
-use mathlib.Core.Bool.{Bool, true, false, not, _||_}
+use mathlib.Core.Bool.{not, _||_}
 use mathlib.Core.List.{List, map}
 use lib.Dec.{eqb}
 use Rattle.counting.proofs.Laws.Tests.{both, by-cases, neither}
 use Rattle.table.specs.declared.geometry.Geometry.{Geometry}
-use Rattle.table.specs.Stores.{Store, entryStore}
+use Rattle.table.specs.Stores.{entryStore}
 use Rattle.table.proofs.Laws.Stores.{runs-ext}
 use Rattle.table.specs.View.{Entry, View, live, current}
 use Rattle.table.specs.Answers.{carry}
@@ -53,7 +53,8 @@ module _ (g : Geometry) (v : View) (e : ℕ → ℕ → Entry) (s : Agrees g v e
 
 pub read-alike : {t t′ : List ℕ} → Alike t t′ → (n b : ℕ) → readOf t′ n b ≡ readOf t n b
 read-alike a n b = plan-alike _ _ (λ g v e s. same-frame g v e s n b (λ x. fetches x))
-    (λ g v e s h. let p = frame-admits g v n b (fetches (v .entry n b)) h .place in ap₂ (carry g) (read-value g v e s n b p) (read-stores g v e s n b p)) a
+    (λ g v e s h. let p = frame-admits g v n b (fetches (v .entry n b)) h .place in
+    ap₂ (carry g) (read-value g v e s n b p) (read-stores g v e s n b p)) a
 
 pub write-alike : {t t′ : List ℕ} → Alike t t′ → (n b x : ℕ) → writeOf t′ n b x ≡ writeOf t n b x
 write-alike a n b x = plan-alike _ _ (λ g v e s. same-frame g v e s n b (λ x. needsFrame (current x)))

@@ -33,7 +33,8 @@ use Rattle.checkpoints.specs.code.CreateCode.{itemPlan, sharerStores, ta
 sharer-codes : (c : ℕ) → (leb shared c && leb c shared) ≡ eqb c shared
 sharer-codes c =
     bool-iff (leb shared c && leb c shared) (eqb c shared)
-    (λ h. let l = both (leb shared c) h in eq-eqb c shared (omega (arith, leb-true shared c (l .0), leb-true c shared (l .1))))
+    (λ h. let l = both (leb shared c) h in
+    eq-eqb c shared (omega (arith, leb-true shared c (l .0), leb-true c shared (l .1))))
     (λ h. let q = eqb-true c shared h in and-both (le-leb shared c (omega arith)) (le-leb c shared (omega arith)))
 
 pub sharer-held : (g : Geometry) (v : View) (b : ℕ) → firstHolder g v b shared shared ≡ sharerOf g v b
@@ -82,8 +83,8 @@ module _ (g : Geometry) (b o : ℕ) {w k left left₁ left₂ : ℕ} {t t₁ t�
 
 -- ---- its plan
 
-module _ (g : Geometry) (v : View) (b : ℕ) (owned : ownerOf g v b < g .nodes) {o s : ℕ} (held : o ≡ firstHolder g v b owner modified)
-    (shares : s ≡ firstHolder g v b shared shared) where
+module _ (g : Geometry) (v : View) (b : ℕ) (owned : ownerOf g v b < g .nodes) {o s : ℕ}
+    (held : o ≡ firstHolder g v b owner modified) (shares : s ≡ firstHolder g v b shared shared) where
   p : o ≡ ownerOf g v b
   p = held ∙ owner-held g v b
 

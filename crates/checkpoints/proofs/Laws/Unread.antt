@@ -1,21 +1,21 @@
--- "A dead node's words, mark apart, are never read", by Open, Create, Commit and Abandon: their plans do not rest on them.
+-- "A dead node's words, mark apart, are never read", by Open, Create, Commit and Abandon: their plans do not rest on
+-- them.
 use Prim.Native.Nat.{ℕ, _*_, _/_, _%_, _<_}
-use mathlib.Core.Path.{_≡_, refl, sym, ap, ap₂, _∙_}
-use mathlib.Core.Bool.{Bool, true, false, cond, not, _&&_}
-use mathlib.Core.List.{List, [], _∷_, _++_, map}
+use mathlib.Core.Path.{_≡_, refl, ap}
+use mathlib.Core.Bool.{true, cond, not}
+use mathlib.Core.List.{List, _++_, map}
 use lib.Dec.{eqb, ltb}
 use borrow.Author.Tests.{ltb-true, not-false}
-use Rattle.counting.specs.Counting.{first}
 use Rattle.counting.proofs.Laws.Tests.{both, by-cases}
 use Rattle.counting.proofs.Laws.First.{first-passes}
 use Rattle.table.specs.declared.geometry.Geometry.{Geometry}
-use Rattle.table.specs.declared.answers.Refusal.the-variants.{NotCreated, NoHome}
+use Rattle.table.specs.declared.answers.Refusal.the-variants.{NotCreated}
 use Rattle.table.specs.Words.{shared, precommit2}
 use Rattle.table.specs.Stores.{Store, Change, entryStore}
 use Rattle.table.proofs.Laws.Stores.{runs-ext}
 use Rattle.table.specs.View.{Entry, View, live, current}
 use Rattle.table.specs.Pass.{markTo, marksTo}
-use Rattle.table.specs.Answers.{Plan, refuse, nothingLeft, carry}
+use Rattle.table.specs.Answers.{carry}
 use Rattle.entries.specs.Dirty.{ownsAt, ownerOf, dirtyItem, noneDirty}
 use Rattle.entries.proofs.Laws.Unread.{over, Agrees, Alike, same-first, same-found, same-owner, same-dirty}
 use Rattle.homes.specs.declared.admission.Admission.{Admission}
@@ -26,8 +26,8 @@ use Rattle.homes.proofs.Laws.Unread.{same-home, same-home-stores, home-live, pl
 use Rattle.checkpoints.specs.declared.checkpoint.Closing.the-variants.{Committed, Abandoned}
 use Rattle.checkpoints.specs.Checkpoint.{commonMark, isOpen, openAdmission, liveChanges, entriesBefore, entriesTo}
 use Rattle.checkpoints.specs.Closing.{closeChange}
-use Rattle.checkpoints.specs.Open.{startAdmission, openStores, openOf}
-use Rattle.checkpoints.specs.Create.{sharesAt, sharerOf, hasSharer, turn, partnerStores, createItem, createStores, noPartner, createPlan, createOf}
+use Rattle.checkpoints.specs.Open.{startAdmission, openOf}
+use Rattle.checkpoints.specs.Create.{sharesAt, sharerOf, partnerStores, createItem, noPartner, createPlan, createOf}
 use Rattle.checkpoints.specs.Commit.{committingMark, committedMark, commitStores, createdAdmission, commitAdmission, commitOf}
 use Rattle.checkpoints.specs.Abandon.{runningMark, abandonStores, abandonOf}
 use Rattle.checkpoints.proofs.Laws.CreateCode.{next-owned}
@@ -56,7 +56,8 @@ module _ (g : Geometry) (v : View) (e : ℕ → ℕ → Entry) (s : Agrees g v e
   pub same-entries-to : (change : Entry → List Change) → entriesTo g (over v e) change ≡ entriesTo g v change
   unfolding entriesBefore
   same-entries-to change =
-      runs-ext (g .nodes * g .items) _ _ (λ k l. ap (map (entryStore (k / g .items) (k % g .items))) (same-changes change (k / g .items) (k % g .items)))
+      runs-ext (g .nodes * g .items) _ _
+      (λ k l. ap (map (entryStore (k / g .items) (k % g .items))) (same-changes change (k / g .items) (k % g .items)))
 
   -- ---- Commit, Abandon
 
@@ -70,7 +71,9 @@ module _ (g : Geometry) (v : View) (e : ℕ → ℕ → Entry) (s : Agrees g v e
 
   commit-stores : commitStores g (over v e) ≡ commitStores g v
   unfolding commitStores marksTo markTo
-  commit-stores = ap (λ (ss : List Store). (marksTo g v committingMark ++ ss) ++ marksTo g v committedMark) (same-entries-to (closeChange Committed))
+  commit-stores =
+      ap (λ (ss : List Store). (marksTo g v committingMark ++ ss) ++ marksTo g v committedMark)
+      (same-entries-to (closeChange Committed))
 
   abandon-stores : abandonStores g (over v e) ≡ abandonStores g v
   unfolding abandonStores marksTo markTo
@@ -97,13 +100,10 @@ module _ (g : Geometry) (v : View) (e : ℕ → ℕ → Entry) (s : Agrees g v e
   create-item : (b o : ℕ) → o < g .nodes → live v o ≡ true → createItem g (over v e) b o ≡ createItem g v b o
   unfolding createItem partnerStores
   create-item b o there t =
-      rw (
-        s .alive o b t,
-        same-sharer b,
-        same-shares b,
-        same-home g v e s Current o b,
-        same-home-stores g v e s (homeOf g v Current o b) (home-live g v Current o b there t) Current b precommit2 (v .entry o b .value),
-      ) refl
+      let h = homeOf g v Current o b in
+      let k = home-live g v Current o b there t in
+      let stores = same-home-stores g v e s h k Current b precommit2 (v .entry o b .value) in
+      rw (s .alive o b t, same-sharer b, same-shares b, same-home g v e s Current o b, stores) refl
 
   same-create : createPlan g (over v e) ≡ createPlan g v
   unfolding createPlan
@@ -111,7 +111,8 @@ module _ (g : Geometry) (v : View) (e : ℕ → ℕ → Entry) (s : Agrees g v e
       let b = dirtyItem g v in
       by-cases (noneDirty g v) (λ q. rw (same-dirty g v e s, q) refl)
       (λ q. let o = next-owned g v refl (ltb-true b (g .items) (not-false _ q)) in
-      rw (same-dirty g v e s, q, same-partner b, same-owner g v e s b, create-item b (ownerOf g v b) o (owner-live b o)) refl)
+      let item = create-item b (ownerOf g v b) o (owner-live b o) in
+      rw (same-dirty g v e s, q, same-partner b, same-owner g v e s b, item) refl)
 
 pub open-alike : {t t′ : List ℕ} → Alike t t′ → openOf t′ ≡ openOf t
 open-alike a = plan-alike _ _ same-start (λ g v e s h. ap (carry g 0) (same-marks-to g v e s _)) a

@@ -1,14 +1,13 @@
--- "A dead node's words, mark apart, are never read": views that have the same marks, and the same entries of live nodes, are sound or not alike,
--- and show the same frames, owners and dirty items.
+-- "A dead node's words, mark apart, are never read": views that have the same marks, and the same entries of live nodes,
+-- are sound or not alike, and show the same frames, owners and dirty items.
 use mathlib.Core.Path.{_≡_, refl, sym, ap, ap₂, _∙_, fun-ext}
 use mathlib.Core.Bool.{Bool, true, false, cond, not, _&&_, _||_}
 use mathlib.Core.List.{List, [], _∷_}
-use Prim.Native.Nat.{ℕ, _<_, _≤_}
+use Prim.Native.Nat.{ℕ, _≤_}
 use native.Mathlib.Omega.{arith}
 use native.Mathlib.Decide.{decLt}
 use lib.Dec.{leb, eqb, ltb}
 use borrow.Author.Tests.{eqb-true}
-use Rattle.counting.specs.Values.{Values}
 use Rattle.counting.proofs.Laws.Tests.{both, and-same, by-cases}
 use Rattle.counting.specs.Counting.{count, first}
 use Rattle.counting.proofs.Laws.Counting.{every-ext, sum-ext, count-ext}
@@ -22,7 +21,7 @@ use Rattle.table.specs.View.{Entry, View, view, live, current, kept, changed, p
 use Rattle.entries.specs.declared.check.Checked.{Checked}
 use Rattle.entries.specs.declared.check.Checked.the-variants.{Passed, Failed}
 use Rattle.entries.specs.Frames.{setsOf, setOf, setFrames, framesAt, used, framesFit, frameFree}
-use Rattle.entries.specs.Tally.{Counts, countsOf, has, hasKept, copy, keep}
+use Rattle.entries.specs.Tally.{countsOf, has, hasKept, copy, keep}
 use Rattle.entries.specs.Items.{itemTest}
 use Rattle.entries.specs.Dirty.{owns, ownsAt, ownerOf, dirty, dirtyItem}
 use Rattle.entries.specs.Sound.{marksForm, phasesOf, pointsOf, marksAgree, statesForm, nodeSound, nodesSound, itemSound, itemsSound, sound}
@@ -50,10 +49,13 @@ module _ (g : Geometry) (v : View) (e : ℕ → ℕ → Entry) (s : Agrees g v e
 
   -- the first node whose live entry of item b passes a test, and its entry
   pub same-first :
-      (b : ℕ) (f : Entry → Bool) → first (λ n. live v n && f (e n b)) (g .nodes) ≡ first (λ n. live v n && f (v .entry n b)) (g .nodes)
+      (b : ℕ) (f : Entry → Bool)
+      → first (λ n. live v n && f (e n b)) (g .nodes) ≡ first (λ n. live v n && f (v .entry n b)) (g .nodes)
   same-first b f = first-ext (g .nodes) _ _ (λ n l. same-test b f n)
 
-  pub same-found : (f : ℕ → Bool) → ((n : ℕ) → f n ≡ true → live v n ≡ true) → (b : ℕ) → e (first f (g .nodes)) b ≡ v .entry (first f (g .nodes)) b
+  pub same-found :
+      (f : ℕ → Bool) → ((n : ℕ) → f n ≡ true → live v n ≡ true)
+      → (b : ℕ) → e (first f (g .nodes)) b ≡ v .entry (first f (g .nodes)) b
   same-found f h b = elim (decLt (first f (g .nodes)) (g .nodes)) [
     | yes l ↦ s .alive (first f (g .nodes)) b (h _ (first-passes f (g .nodes) l))
     | no l ↦ s .outside (first f (g .nodes)) b (omega arith)
@@ -68,11 +70,14 @@ module _ (g : Geometry) (v : View) (e : ℕ → ℕ → Entry) (s : Agrees g v e
       let c : _≡_ {A = ℕ → ℕ} (λ code. count (has w b code) N) (λ code. count (has v b code) N) =
       fun-ext λ code. count-ext N (has w b code) (has v b code) (λ n l. same-test b (λ x. eqb (current x) code) n) in
       let q : _≡_ {A = ℕ → ℕ} (λ code. count (hasKept w b code) N) (λ code. count (hasKept v b code) N) =
-      fun-ext λ code. count-ext N (hasKept w b code) (hasKept v b code) (λ n l. same-test b (λ x. eqb (kept x) code) n) in
+      fun-ext λ code.
+      count-ext N (hasKept w b code) (hasKept v b code) (λ n l. same-test b (λ x. eqb (kept x) code) n) in
       let n = count-ext N (copy w b) (copy v b) (λ n l. same-test b (λ x. not (eqb (current x) 0)) n) in
-      let x = values-ext N (copy v b) (copy w b) (λ n. v .entry n b .value) (λ n. e n b .value) (λ n l. same-test b (λ x. not (eqb (current x) 0)) n)
+      let x = values-ext N (copy v b) (copy w b) (λ n. v .entry n b .value) (λ n. e n b .value)
+      (λ n l. same-test b (λ x. not (eqb (current x) 0)) n)
       (λ n l t. ap (λ x. x .value) (s .alive n b (both (live v n) t .0))) in
-      let y = values-ext N (keep v b) (keep w b) (λ n. v .entry n b .keptValue) (λ n. e n b .keptValue) (λ n l. same-test b (λ x. not (eqb (kept x) 0)) n)
+      let y = values-ext N (keep v b) (keep w b) (λ n. v .entry n b .keptValue) (λ n. e n b .keptValue)
+      (λ n l. same-test b (λ x. not (eqb (kept x) 0)) n)
       (λ n l t. ap (λ x. x .keptValue) (s .alive n b (both (live v n) t .0))) in
       λ i. record { current = c i; kept = q i; copies = n i; values = x i; keeps = y i }
 
@@ -98,8 +103,10 @@ module _ (g : Geometry) (v : View) (e : ℕ → ℕ → Entry) (s : Agrees g v e
   same-node : (n : ℕ) → nodeSound g (over v e) n ≡ nodeSound g v n
   unfolding nodeSound statesForm framesFit
   same-node n = or-same (live v n) _ _ (λ t. ap₂ (λ (x y : Bool). x && y)
-      (every-ext (g .items) (λ b. stateForm (e n b .state)) (λ b. stateForm (v .entry n b .state)) (λ b k. ap (λ x. stateForm (x .state)) (s .alive n b t)))
-      (every-ext (setsOf g) (λ x. leb (used g (over v e) n x) (setFrames g)) (λ x. leb (used g v n x) (setFrames g)) (λ x _. ap (λ u. leb u (setFrames g)) (same-used n x t))))
+      (every-ext (g .items) (λ b. stateForm (e n b .state)) (λ b. stateForm (v .entry n b .state))
+      (λ b k. ap (λ x. stateForm (x .state)) (s .alive n b t)))
+      (every-ext (setsOf g) (λ x. leb (used g (over v e) n x) (setFrames g)) (λ x. leb (used g v n x) (setFrames g))
+      (λ x _. ap (λ u. leb u (setFrames g)) (same-used n x t))))
 
   pub same-nodes : nodesSound g (over v e) ≡ nodesSound g v
   unfolding nodesSound
@@ -119,7 +126,8 @@ updates-marks : (ss : List Store) (v : View) (e : ℕ → ℕ → Entry) → upd
 updates-marks [] v e = refl
 updates-marks (sizeStore h ∷ ss) v e = updates-marks ss v e
 updates-marks (markStore n w ∷ ss) v e = updates-marks ss (update (markStore n w) v) e
-updates-marks (entryStore n b c ∷ ss) v e = updates-marks ss (update (entryStore n b c) v) (put₂ e n b (changed c (e n b)))
+updates-marks (entryStore n b c ∷ ss) v e =
+    updates-marks ss (update (entryStore n b c) v) (put₂ e n b (changed c (e n b)))
 
 -- and the entries of a node, where they agree
 updates-entry :
@@ -140,7 +148,8 @@ module _ (g : Geometry) (v : View) (e : ℕ → ℕ → Entry) (ss : List Store)
   pub updates-over : updates ss (over v e) ≡ over (updates ss v) (updates ss (over v e) .entry)
   updates-over = λ i. record { mark = updates-marks ss v e i; entry = updates ss (over v e) .entry }
 
-  pub updates-agree : updates ss v .mark ≡ v .mark → Agrees g v e → Agrees g (updates ss v) (updates ss (over v e) .entry)
+  pub updates-agree :
+      updates ss v .mark ≡ v .mark → Agrees g v e → Agrees g (updates ss v) (updates ss (over v e) .entry)
   updates-agree m s = record {
     alive = λ n b t. updates-entry ss v e n (λ d. s .alive n d (ap (λ (f : ℕ → ℕ). not (eqb (f n) 0)) (sym m) ∙ t)) b;
     outside = λ n b l. updates-entry ss v e n (λ d. s .outside n d l) b;
@@ -155,7 +164,8 @@ pub record Alike (t t′ : List ℕ) : Type 0 where
   pub entries : (g : Geometry) → sizesOf t ≡ Passed g → Agrees g (view g t) (view g t′ .entry)
 
 -- the other's view
-pub alike-view : (g : Geometry) {t t′ : List ℕ} → Alike t t′ → sizesOf t ≡ Passed g → view g t′ ≡ over (view g t) (view g t′ .entry)
+pub alike-view :
+    (g : Geometry) {t t′ : List ℕ} → Alike t t′ → sizesOf t ≡ Passed g → view g t′ ≡ over (view g t) (view g t′ .entry)
 alike-view g {t′ = t′} a h = λ i. record { mark = a .marks g h i; entry = view g t′ .entry }
 
 -- they pass the table checks alike
@@ -165,4 +175,6 @@ alike-fault {t} {t′} a = ap (soundOf t′) (a .sizes) ∙ go (sizesOf t) refl
   where
     go : (c : Checked) → sizesOf t ≡ c → soundOf t′ c ≡ soundOf t c
     go (Failed x) h = refl
-    go (Passed g) h = ap (λ q. cond q (Passed g) (Failed NotSound)) (ap (sound g) (alike-view g a h) ∙ same-sound g (view g t) (view g t′ .entry) (a .entries g h))
+    go (Passed g) h =
+        ap (λ q. cond q (Passed g) (Failed NotSound))
+        (ap (sound g) (alike-view g a h) ∙ same-sound g (view g t) (view g t′ .entry) (a .entries g h))

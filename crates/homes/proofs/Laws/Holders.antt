@@ -41,7 +41,8 @@ owner-codes c =
     (λ h. let l = both (leb owner c) h in
     elim (ℕ-discrete c owner) [
       | yes e ↦ or-left _ (eq-eqb c owner e)
-      | no e ↦ or-right (eqb c owner) (eq-eqb c modified (omega (arith, leb-true owner c (l .0), leb-true c modified (l .1))))
+      | no e ↦ or-right (eqb c owner)
+          (eq-eqb c modified (omega (arith, leb-true owner c (l .0), leb-true c modified (l .1))))
     ])
     (λ h. either (eqb c owner) h
     (λ e. let q = eqb-true c owner e in and-both (le-leb owner c (omega arith)) (le-leb c modified (omega arith)))

@@ -155,7 +155,8 @@ module _ (g : Geometry) (v : View) (place : Place) (n b : ℕ) where
   unfolding homeFrom
   home-there h = rw (lt-ltb n (g .nodes) h) refl
 
-module _ (g : Geometry) (v : View) (place : Place) (n b i : ℕ) (there : n < g .nodes) (none : first (fitsAfter g v place n b) i ≡ i) {h : ℕ} (p : h ≡ nodeAfter g n i) where
+module _ (g : Geometry) (v : View) (place : Place) (n b i : ℕ) (there : n < g .nodes)
+    (none : first (fitsAfter g v place n b) i ≡ i) {h : ℕ} (p : h ≡ nodeAfter g n i) where
   module _ {found : Bool} (q : found ≡ fits g v place b h) where
     test : {r : Bool} → found ≡ r → fitsAfter g v place n b i ≡ r
     unfolding fitsAfter
@@ -164,7 +165,8 @@ module _ (g : Geometry) (v : View) (place : Place) (n b i : ℕ) (there : n < g 
     pub home-found : i < g .nodes - 1 → found ≡ true → h ≡ homeFrom g v place n b
     unfolding homeOf passedOver
     home-found l e =
-        p ∙ ap (nodeAfter g n) (sym (first-found (fitsAfter g v place n b) i (g .nodes - 1) none (test e) l)) ∙ sym (home-there g v place n b there)
+        p ∙ ap (nodeAfter g n) (sym (first-found (fitsAfter g v place n b) i (g .nodes - 1) none (test e) l))
+        ∙ sym (home-there g v place n b there)
 
     pub home-on : found ≡ false → first (fitsAfter g v place n b) (i + 1) ≡ i + 1
     home-on e = first-turns (fitsAfter g v place n b) i none (test e)

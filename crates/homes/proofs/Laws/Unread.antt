@@ -1,9 +1,9 @@
--- "A dead node's words, mark apart, are never read", by Evict: its home, its refusals and its stores do not rest on them; and the plan of a call does
--- not if what it admits and what it does do not.
+-- "A dead node's words, mark apart, are never read", by Evict: its home, its refusals and its stores do not rest on
+-- them; and the plan of a call does not if what it admits and what it does do not.
 use Prim.Native.Nat.{ℕ, _-_, _<_}
-use mathlib.Core.Path.{_≡_, refl, sym, ap, ap₂, _∙_}
-use mathlib.Core.Bool.{Bool, true, false, cond, not, _&&_, _||_}
-use mathlib.Core.List.{List, [], _++_}
+use mathlib.Core.Path.{_≡_, refl, ap, ap₂, _∙_}
+use mathlib.Core.Bool.{Bool, true, cond, not, _&&_, _||_}
+use mathlib.Core.List.{List}
 use lib.Dec.{eqb, ltb}
 use borrow.Author.Tests.{eqb-true, ne-eqb}
 use Rattle.counting.proofs.Laws.Tests.{and-same, by-cases}
@@ -11,7 +11,6 @@ use Rattle.counting.proofs.Laws.First.{first-ext}
 use Rattle.table.specs.declared.geometry.Geometry.{Geometry}
 use Rattle.table.specs.declared.answers.Refusal.the-variants.{NoFrame}
 use Rattle.table.specs.Words.{shared}
-use Rattle.table.specs.Stores.{Store}
 use Rattle.table.specs.View.{Entry, View, view, live, current}
 use Rattle.table.specs.Answers.{Plan, carry}
 use Rattle.entries.specs.declared.check.Checked.{Checked}
@@ -47,15 +46,19 @@ module _ (g : Geometry) (v : View) (e : ℕ → ℕ → Entry) (s : Agrees g v e
   same-admission n b = refl
 
   pub same-frame :
-      (n b : ℕ) (f : Entry → Bool) → frameAdmission g (over v e) n b (f (e n b)) (admissionOf g (over v e) n b) ≡ frameAdmission g v n b (f (v .entry n b)) (admissionOf g v n b)
+      (n b : ℕ) (f : Entry → Bool)
+      → frameAdmission g (over v e) n b (f (e n b)) (admissionOf g (over v e) n b)
+      ≡ frameAdmission g v n b (f (v .entry n b)) (admissionOf g v n b)
   unfolding frameAdmission frameFull admissionOf
   same-frame n b f = go (admissionOf g v n b) refl
     where
-      go : (a : Admission) → admissionOf g v n b ≡ a → frameAdmission g (over v e) n b (f (e n b)) a ≡ frameAdmission g v n b (f (v .entry n b)) a
+      go : (a : Admission) → admissionOf g v n b ≡ a
+          → frameAdmission g (over v e) n b (f (e n b)) a ≡ frameAdmission g v n b (f (v .entry n b)) a
       go (Turned x) h = refl
       go Admitted h =
           let t = admitted-live g v n b h in
-          ap₂ (λ (x : Entry) (free : Bool). cond (f x && not free) (Turned NoFrame) Admitted) (s .alive n b t) (same-free g v e s n b t)
+          ap₂ (λ (x : Entry) (free : Bool). cond (f x && not free) (Turned NoFrame) Admitted) (s .alive n b t)
+          (same-free g v e s n b t)
 
   -- ---- the home
 
@@ -81,20 +84,25 @@ module _ (g : Geometry) (v : View) (e : ℕ → ℕ → Entry) (s : Agrees g v e
     unfolding arrivalOf
     same-arrival place b = rw (same-dropped b, s .alive h b t, s .alive h (droppedItem g v h b) t) refl
 
-    pub same-home-stores : (place : Place) (b code value : ℕ) → homeStores g (over v e) place h b code value ≡ homeStores g v place h b code value
+    pub same-home-stores :
+        (place : Place) (b code value : ℕ)
+        → homeStores g (over v e) place h b code value ≡ homeStores g v place h b code value
     unfolding homeStores
     same-home-stores place b code value = ap (homeStoresBy place h b code value) (same-arrival place b)
 
   same-fits : (place : Place) (b h : ℕ) → fits g (over v e) place b h ≡ fits g v place b h
   unfolding fits
-  same-fits place b h = and-same (live v h) (placeFits g (over v e) place b h) (placeFits g v place b h) (λ t. same-place h t place b)
+  same-fits place b h =
+      and-same (live v h) (placeFits g (over v e) place b h) (placeFits g v place b h) (λ t. same-place h t place b)
 
   pub same-home : (place : Place) (n b : ℕ) → homeOf g (over v e) place n b ≡ homeOf g v place n b
   unfolding homeOf passedOver fitsAfter
   same-home place n b = ap (nodeAfter g n) (first-ext (g .nodes - 1) _ _ (λ i l. same-fits place b (nodeAfter g n i)))
 
 -- the home of a live node's copy is live, or it is the node itself
-pub home-live : (g : Geometry) (v : View) (place : Place) (n b : ℕ) → n < g .nodes → live v n ≡ true → live v (homeOf g v place n b) ≡ true
+pub home-live :
+    (g : Geometry) (v : View) (place : Place) (n b : ℕ) → n < g .nodes → live v n ≡ true
+    → live v (homeOf g v place n b) ≡ true
 home-live g v place n b there t =
     by-cases (noHome g v place n b)
     (λ q. ap (live v) (eqb-true (homeOf g v place n b) n q) ∙ t)
@@ -107,7 +115,8 @@ module _ (g : Geometry) (v : View) (e : ℕ → ℕ → Entry) (s : Agrees g v e
   unfolding placeAdmission admissionOf
   evict-admission = go (admissionOf g v n b) refl
     where
-      go : (a : Admission) → admissionOf g v n b ≡ a → placeAdmission g (over v e) place n b a ≡ placeAdmission g v place n b a
+      go : (a : Admission) → admissionOf g v n b ≡ a
+          → placeAdmission g (over v e) place n b a ≡ placeAdmission g v place n b a
       go (Turned x) h = refl
       go Admitted h = rw (s .alive n b (admitted-live g v n b h), same-home g v e s place n b) refl
 
@@ -115,15 +124,19 @@ module _ (g : Geometry) (v : View) (e : ℕ → ℕ → Entry) (s : Agrees g v e
   unfolding evictStores movedTo
   evict-stores a =
       let t = admits-live g v n b a in
-      let h = home-live g v place n b (a .node) t in
-      rw (s .alive n b t, same-home g v e s place n b, same-home-stores g v e s (homeOf g v place n b) h place b (codeIn place (v .entry n b)) (valueIn place (v .entry n b))) refl
+      let h = homeOf g v place n b in
+      let k = home-live g v place n b (a .node) t in
+      let x = v .entry n b in
+      let stores = same-home-stores g v e s h k place b (codeIn place x) (valueIn place x) in
+      rw (s .alive n b t, same-home g v e s place n b, stores) refl
 
 -- ---- the plan of a call
 
 module _ (admits : Geometry → View → Admission) (acts : Geometry → View → Plan) where
   pub plan-alike :
       ((g : Geometry) (v : View) (e : ℕ → ℕ → Entry) → Agrees g v e → admits g (over v e) ≡ admits g v)
-      → ((g : Geometry) (v : View) (e : ℕ → ℕ → Entry) → Agrees g v e → admits g v ≡ Admitted → acts g (over v e) ≡ acts g v)
+      → ((g : Geometry) (v : View) (e : ℕ → ℕ → Entry) → Agrees g v e → admits g v ≡ Admitted
+      → acts g (over v e) ≡ acts g v)
       → {t t′ : List ℕ} → Alike t t′ → planBy admits acts t′ ≡ planBy admits acts t
   unfolding planBy planChecked planAdmitted
   plan-alike p q {t} {t′} a = ap (planChecked admits acts t′) (alike-fault a) ∙ checked (faultOf t) refl

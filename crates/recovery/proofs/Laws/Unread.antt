@@ -1,9 +1,9 @@
--- "A dead node's words, mark apart, are never read", by Recover, nor a lost node's, mark included: its plan does not rest on them. Each stage finds
--- views that agree as the first one does, for only the last one stores marks.
+-- "A dead node's words, mark apart, are never read", by Recover, nor a lost node's, mark included: its plan does not rest
+-- on them. Each stage finds views that agree as the first one does, for only the last one stores marks.
 use Prim.Native.Nat.{ℕ, zero, suc, _-_, _*_, _/_, _%_, _≤_}
-use mathlib.Core.Path.{_≡_, refl, sym, ap, ap₂, _∙_}
-use mathlib.Core.Bool.{Bool, true, false, cond, not, _&&_}
-use mathlib.Core.List.{List, [], _++_, map}
+use mathlib.Core.Path.{_≡_, refl, ap, ap₂, _∙_}
+use mathlib.Core.Bool.{Bool, not, _&&_}
+use mathlib.Core.List.{List, _++_, map}
 use native.Mathlib.Omega.{arith}
 use lib.Dec.{eqb}
 use Rattle.counting.specs.Counting.{count}
@@ -24,16 +24,14 @@ use Rattle.entries.specs.declared.check.Checked.{Checked}
 use Rattle.entries.specs.declared.check.Checked.the-variants.{Passed, Failed}
 use Rattle.entries.specs.Check.{sizesOf}
 use Rattle.entries.specs.Tally.{has, copy}
-use Rattle.entries.specs.Frames.{frameFree}
-use Rattle.entries.specs.Sound.{marksForm, nodesSound}
+use Rattle.entries.specs.Sound.{marksForm}
 use Rattle.entries.proofs.Laws.Unread.{over, Agrees, same-test, same-first, same-found, same-free, same-nodes, updates-over, updates-agree}
 use Rattle.homes.specs.declared.admission.Admission.{Admission}
-use Rattle.homes.specs.declared.admission.Admission.the-variants.{Turned, Admitted}
 use Rattle.homes.specs.Home.{nodeAfter}
 use Rattle.homes.specs.Plans.{planAdmitted}
 use Rattle.checkpoints.proofs.Laws.Unread.{same-entries-to}
 use Rattle.survivors.specs.declared.lost.Lost.{Lost}
-use Rattle.survivors.specs.Survivors.{lostStores, survivors, survivorCount, lostOutside, tooFew}
+use Rattle.survivors.specs.Survivors.{lostStores, survivors, survivorCount, tooFew}
 use Rattle.survivors.specs.Direction.{forwardIn}
 use Rattle.survivors.specs.ClosingMarks.{largestNumber, closingStores}
 use Rattle.recovery.specs.Sides.{copyOn, hasCopy, copiesOn, itemFits, itemsFit}
@@ -64,7 +62,8 @@ module _ (g : Geometry) (w : View) (e : ℕ → ℕ → Entry) (s : Agrees g w e
   unfolding survivorsFormed marksForm
   same-formed = ap (λ (x : Bool). marksForm w (g .nodes) && x) (same-nodes g w e s)
 
-  same-admission : (lost : Lost) (scratch : ℕ) → recoverAdmission g (over w e) lost scratch ≡ recoverAdmission g w lost scratch
+  same-admission :
+      (lost : Lost) (scratch : ℕ) → recoverAdmission g (over w e) lost scratch ≡ recoverAdmission g w lost scratch
   unfolding recoverAdmission tooFew survivorCount
   same-admission lost scratch = rw (same-formed, same-fit) refl
 
@@ -90,11 +89,13 @@ module _ (g : Geometry) (w : View) (e : ℕ → ℕ → Entry) (s : Agrees g w e
   same-numbers : numberStores g (over w e) ≡ numberStores g w
   unfolding numberStores
   same-numbers =
-      runs-ext (g .items * g .nodes) _ _ (λ k l. ap (map (entryStore (k % g .nodes) (k / g .nodes))) (same-number (k % g .nodes) (k / g .nodes)))
+      runs-ext (g .items * g .nodes) _ _
+      (λ k l. ap (map (entryStore (k % g .nodes) (k / g .nodes))) (same-number (k % g .nodes) (k / g .nodes)))
 
   same-single : (b : ℕ) → single g (over w e) b ≡ single g w b
   unfolding single
-  same-single b = ap (λ n. eqb n 1) (count-ext (g .nodes) _ _ (λ n l. same-test g w e s b (λ x. not (eqb (current x) 0)) n))
+  same-single b =
+      ap (λ n. eqb n 1) (count-ext (g .nodes) _ _ (λ n l. same-test g w e s b (λ x. not (eqb (current x) 0)) n))
 
   same-holder : (b : ℕ) → holderOf g (over w e) b ≡ holderOf g w b
   unfolding holderOf
@@ -106,7 +107,9 @@ module _ (g : Geometry) (w : View) (e : ℕ → ℕ → Entry) (s : Agrees g w e
 
   same-takes : (b n : ℕ) → takes g (over w e) b n ≡ takes g w b n
   unfolding takes
-  same-takes b n = and-same (live w n) _ _ (λ t. ap₂ (λ (x : Entry) (free : Bool). eqb (current x) invalid && free) (s .alive n b t) (same-free g w e s n b t))
+  same-takes b n =
+      and-same (live w n) _ _
+      (λ t. ap₂ (λ (x : Entry) (free : Bool). eqb (current x) invalid && free) (s .alive n b t) (same-free g w e s n b t))
 
   same-partner-of : (b n : ℕ) → partnerOf g (over w e) b n ≡ partnerOf g w b n
   unfolding partnerOf takesAfter
@@ -139,11 +142,14 @@ module _ (g : Geometry) where
       → (w : View) (e : ℕ → ℕ → Entry) → Agrees g w e → h (updates (f (over w e)) (over w e)) ≡ h (updates (f w) w)
   then-steady f h p entered q w e s =
       ap (λ (ss : List Store). h (updates ss (over w e))) (p w e s) ∙ ap h (updates-over g w e (f w))
-      ∙ q (updates (f w) w) (updates (f w) (over w e) .entry) (updates-agree g w e (f w) (entered-marks w (entered w)) s)
+      ∙ q (updates (f w) w) (updates (f w) (over w e) .entry)
+      (updates-agree g w e (f w) (entered-marks w (entered w)) s)
 
-  followed-steady : (f h : View → List Store) → Steady g f → ((w : View) → All (Entered g) (f w)) → Steady g h → Steady g (followed f h)
+  followed-steady :
+      (f h : View → List Store) → Steady g f → ((w : View) → All (Entered g) (f w)) → Steady g h → Steady g (followed f h)
   unfolding followed
-  followed-steady f h p entered q w e s = ap₂ (λ (xs ys : List Store). xs ++ ys) (p w e s) (then-steady f h p entered q w e s)
+  followed-steady f h p entered q w e s =
+      ap₂ (λ (xs ys : List Store). xs ++ ys) (p w e s) (then-steady f h p entered q w e s)
 
   staged-steady : (i : ℕ) → i ≤ g .items → Steady g (staged (partnerStores g) i)
   unfolding staged
@@ -151,7 +157,8 @@ module _ (g : Geometry) where
   staged-steady (suc i) h w e s =
       let p = staged-steady i (omega arith) in
       ap₂ (λ (xs ys : List Store). xs ++ ys) (p w e s)
-      (then-steady (staged (partnerStores g) i) (partnerStores g i) p (λ u. entered-staged g i u (omega arith)) (λ u f k. same-partner g u f k i) w e s)
+      (then-steady (staged (partnerStores g) i) (partnerStores g i) p (λ u. entered-staged g i u (omega arith))
+      (λ u f k. same-partner g u f k i) w e s)
 
   partners-steady : Steady g (partnersStores g)
   unfolding partnersStores
@@ -161,17 +168,22 @@ module _ (g : Geometry) where
   unfolding survivorStores
   stores-steady =
       followed-steady _ _ (same-roll g) (entered-roll g)
-      (followed-steady _ _ (same-numbers g) (entered-number g) (followed-steady _ _ partners-steady (entered-partners g) (same-closing g)))
+      (followed-steady _ _ (same-numbers g) (entered-number g)
+      (followed-steady _ _ partners-steady (entered-partners g) (same-closing g)))
 
 -- ---- the plan
 
 -- tables of the same sizes, whose survivors' views differ in nothing but the entries of nodes that do not survive
 pub record AlikeBut (lost : Lost) (t t′ : List ℕ) : Type 0 where
   pub sizes : sizesOf t′ ≡ sizesOf t
-  pub views : (g : Geometry) → sizesOf t ≡ Passed g → survivors lost (view g t′) ≡ over (survivors lost (view g t)) (view g t′ .entry)
+  pub views :
+      (g : Geometry) → sizesOf t ≡ Passed g
+      → survivors lost (view g t′) ≡ over (survivors lost (view g t)) (view g t′ .entry)
   pub entries : (g : Geometry) → sizesOf t ≡ Passed g → Agrees g (survivors lost (view g t)) (view g t′ .entry)
 
-pub recover-alike : (lost : Lost) (scratch : ℕ) {t t′ : List ℕ} → AlikeBut lost t t′ → recoverOf t′ lost scratch ≡ recoverOf t lost scratch
+pub recover-alike :
+    (lost : Lost) (scratch : ℕ) {t t′ : List ℕ} → AlikeBut lost t t′
+    → recoverOf t′ lost scratch ≡ recoverOf t lost scratch
 unfolding recoverOf recoverChecked recoverStores
 recover-alike lost scratch {t} {t′} a = ap (recoverChecked t′ lost scratch) (a .sizes) ∙ go (sizesOf t) refl
   where

@@ -1,12 +1,11 @@
 -- "A dead node's words, mark apart, are never read": it holds.
 use Prim.Native.Nat.{ℕ, _+_, _<_, _≤_}
 use mathlib.Core.Path.{_≡_, refl, sym, ap, _∙_, fun-ext}
-use mathlib.Core.Logic.{_≢_}
-use mathlib.Core.Bool.{Bool, true, false, not, cond, _&&_, _||_}
+use mathlib.Core.Bool.{true, false, not, cond}
 use mathlib.Core.List.{List}
 use native.Mathlib.Omega.{arith}
 use native.Mathlib.Decide.{ℕ-discrete}
-use lib.Dec.{eqb, leb, ltb}
+use lib.Dec.{eqb, ltb}
 use lib.ListN.{length, getD}
 use borrow.Author.Tests.{eq-eqb, ne-eqb, lt-leb, ltb-true, le-ltb, leb-false}
 use Rattle.counting.proofs.Laws.Tests.{both, by-cases, no-both, and-no, neither}
@@ -16,9 +15,9 @@ use Rattle.table.specs.declared.geometry.Made.{Made}
 use Rattle.table.specs.declared.geometry.Made.the-variants.{Allowed, NotAllowed}
 use Rattle.table.specs.declared.answers.Refusal.the-variants.{NoNode}
 use Rattle.table.specs.Geometry.{markAt, entryAt, geometryOf}
-use Rattle.table.specs.View.{Entry, View, view, live, there, entryIn}
+use Rattle.table.specs.View.{View, view, live, there, entryIn}
 use Rattle.table.proofs.Laws.View.{entry-same}
-use Rattle.table.specs.Answers.{Plan, refuse}
+use Rattle.table.specs.Answers.{refuse}
 use Rattle.entries.specs.declared.check.Checked.{Checked}
 use Rattle.entries.specs.declared.check.Checked.the-variants.{Passed, Failed}
 use Rattle.entries.specs.Check.{madeOf, lengthOf, sizesOf}
@@ -34,15 +33,15 @@ use Rattle.survivors.specs.declared.lost.Lost.{Lost}
 use Rattle.survivors.specs.declared.lost.Lost.the-variants.{Nobody, Node}
 use Rattle.survivors.specs.Survivors.{survivors, lostOutside}
 use Rattle.recovery.specs.Recover.{recoverAdmission, recoverChecked, recoverOf}
-use Rattle.recovery.proofs.Laws.Unread.{AlikeBut, recover-alike}
+use Rattle.recovery.proofs.Laws.Unread.{recover-alike}
 use Rattle.restore.specs.declared.call.Call.{Call}
 use Rattle.restore.specs.declared.call.Call.the-variants.{Format, Check, Stretch, Read, Write, Evict, Open, Create, Commit, Abandon, Recover}
 use Rattle.restore.specs.Call.{planOf}
 use Rattle.restore.specs.Run.{geometryIn}
-use Rattle.restore.specs.Strike.{ofEntries, ofNode, ofLost}
+use Rattle.restore.specs.Strike.{ofEntries, ofLost}
 use Rattle.restore.specs.Unread.{ofDead, SameButDead, SameButLost, Unread}
 use Rattle.restore.proofs.Laws.Good.{shape-geometry}
-use Rattle.restore.proofs.Laws.HitReady.{mark-of-other, entry-of-other, live-inside}
+use Rattle.restore.proofs.Laws.HitReady.{mark-of-other, entry-of-other}
 
 -- ---- words that are no dead node's
 
@@ -60,13 +59,15 @@ module _ (g : Geometry) (v : View) where
   unfolding ofDead
   entry-not-dead n b k hb hk t = exists-not (g .nodes) _ (λ m l. elim (ℕ-discrete n m) [
     | yes e ↦ (let q : live v m ≡ true = rw e at t in rw q refl)
-    | no e ↦ and-no (not (live v m)) (neither (eqb (entryAt g n b + k) (markAt m)) (ofEntries g m (entryAt g n b + k)) (entry-of-other g m l n b k hb e hk) .1)
+    | no e ↦ (let i = entryAt g n b + k in
+        and-no (not (live v m)) (neither (eqb i (markAt m)) (ofEntries g m i) (entry-of-other g m l n b k hb e hk) .1))
   ])
 
 -- ---- views of words that are the same
 
 module _ (g : Geometry) (t t′ : List ℕ) where
-  mark-same : (n : ℕ) → (n < g .nodes → getD t′ (markAt n) 0 ≡ getD t (markAt n) 0) → view g t′ .mark n ≡ view g t .mark n
+  mark-same :
+      (n : ℕ) → (n < g .nodes → getD t′ (markAt n) 0 ≡ getD t (markAt n) 0) → view g t′ .mark n ≡ view g t .mark n
   unfolding view
   mark-same n h = by-cases (ltb n (g .nodes)) (λ y. rw y (h (ltb-true n (g .nodes) y))) (λ y. rw y refl)
 
@@ -74,7 +75,8 @@ module _ (g : Geometry) (t t′ : List ℕ) where
       (n b : ℕ) → (b < g .items → (k : ℕ) → k < 3 → getD t′ (entryAt g n b + k) 0 ≡ getD t (entryAt g n b + k) 0)
       → view g t′ .entry n b ≡ view g t .entry n b
   unfolding view
-  entry-there n b h = by-cases (there g n b) (λ y. rw y (same (ltb-true b (g .items) (both (ltb n (g .nodes)) y .1)))) (λ y. rw y refl)
+  entry-there n b h =
+      by-cases (there g n b) (λ y. rw y (same (ltb-true b (g .items) (both (ltb n (g .nodes)) y .1)))) (λ y. rw y refl)
     where
       same : b < g .items → entryIn t′ (entryAt g n b) ≡ entryIn t (entryAt g n b)
       same l = entry-same t t′ (entryAt g n b) (h l)
@@ -116,11 +118,13 @@ dead-alike t t′ s = record {
     g₀ = geometryIn t
 
     marks : view g₀ t′ .mark ≡ view g₀ t .mark
-    marks = fun-ext (λ n. mark-same g₀ t t′ n (λ l. s .rest (markAt n) (low-not-dead g₀ (view g₀ t) (markAt n) (omega arith))))
+    marks = fun-ext (λ n. mark-same g₀ t t′ n (λ l.
+        s .rest (markAt n) (low-not-dead g₀ (view g₀ t) (markAt n) (omega arith))))
 
     entries : Agrees g₀ (view g₀ t) (view g₀ t′ .entry)
     entries = record {
-      alive = λ n b a. entry-there g₀ t t′ n b (λ hb k hk. s .rest (entryAt g₀ n b + k) (entry-not-dead g₀ (view g₀ t) n b k hb hk a));
+      alive = λ n b a. entry-there g₀ t t′ n b (λ hb k hk.
+          s .rest (entryAt g₀ n b + k) (entry-not-dead g₀ (view g₀ t) n b k hb hk a));
       outside = λ n b l. entry-outside g₀ t t′ n b l;
     }
 
@@ -131,7 +135,9 @@ zero-not-lost g Nobody = refl
 zero-not-lost g (Node n) = rw (ne-eqb 0 (markAt n) (λ e. omega arith), lt-leb (entryAt g n 0) 0 (omega arith)) refl
 
 -- a lost node that is none of the table's is refused
-outside-refused : (t : List ℕ) (lost : Lost) (scratch : ℕ) (g : Geometry) → lostOutside g lost ≡ true → recoverChecked t lost scratch (Passed g) ≡ refuse NoNode
+outside-refused :
+    (t : List ℕ) (lost : Lost) (scratch : ℕ) (g : Geometry) → lostOutside g lost ≡ true
+    → recoverChecked t lost scratch (Passed g) ≡ refuse NoNode
 unfolding recoverChecked recoverAdmission planAdmitted
 outside-refused t lost scratch g h = rw h refl
 
@@ -143,36 +149,45 @@ module _ (t t′ : List ℕ) where
   v₀ = view g₀ t
 
   -- of a node of the table, or of none
-  lost-views : (lost : Lost) → lostOutside g₀ lost ≡ false → SameButLost lost t t′ → survivors lost (view g₀ t′) ≡ over (survivors lost v₀) (view g₀ t′ .entry)
+  lost-views :
+      (lost : Lost) → lostOutside g₀ lost ≡ false → SameButLost lost t t′
+      → survivors lost (view g₀ t′) ≡ over (survivors lost v₀) (view g₀ t′ .entry)
   lost-views Nobody o s = λ i. record { mark = marks i; entry = view g₀ t′ .entry }
     where
       marks : view g₀ t′ .mark ≡ v₀ .mark
-      marks = fun-ext (λ n. mark-same g₀ t t′ n (λ l. s .rest (markAt n) refl (low-not-dead g₀ v₀ (markAt n) (omega arith))))
+      marks = fun-ext (λ n. mark-same g₀ t t′ n (λ l.
+          s .rest (markAt n) refl (low-not-dead g₀ v₀ (markAt n) (omega arith))))
   lost-views (Node m) o s = λ i. record { mark = marks i; entry = view g₀ t′ .entry }
     where
       marks : survivors (Node m) (view g₀ t′) .mark ≡ survivors (Node m) v₀ .mark
       marks = fun-ext (λ n. elim (ℕ-discrete n m) [
         | yes e ↦ rw (eq-eqb n m e) refl
         | no e ↦ rw (ne-eqb n m e) (mark-same g₀ t t′ n (λ l.
-            s .rest (markAt n) (mark-of-other g₀ m (leb-false (g₀ .nodes) m o) n l e) (low-not-dead g₀ v₀ (markAt n) (omega arith))))
+            s .rest (markAt n) (mark-of-other g₀ m (leb-false (g₀ .nodes) m o) n l e)
+            (low-not-dead g₀ v₀ (markAt n) (omega arith))))
       ])
 
-  lost-entries : (lost : Lost) → lostOutside g₀ lost ≡ false → SameButLost lost t t′ → Agrees g₀ (survivors lost v₀) (view g₀ t′ .entry)
+  lost-entries :
+      (lost : Lost) → lostOutside g₀ lost ≡ false → SameButLost lost t t′
+      → Agrees g₀ (survivors lost v₀) (view g₀ t′ .entry)
   lost-entries Nobody o s = record {
-    alive = λ n b a. entry-there g₀ t t′ n b (λ hb k hk. s .rest (entryAt g₀ n b + k) refl (entry-not-dead g₀ v₀ n b k hb hk a));
+    alive = λ n b a. entry-there g₀ t t′ n b (λ hb k hk.
+        s .rest (entryAt g₀ n b + k) refl (entry-not-dead g₀ v₀ n b k hb hk a));
     outside = λ n b l. entry-outside g₀ t t′ n b l;
   }
   lost-entries (Node m) o s = record { alive = alive; outside = λ n b l. entry-outside g₀ t t′ n b l }
     where
       alive : (n b : ℕ) → live (survivors (Node m) v₀) n ≡ true → view g₀ t′ .entry n b ≡ v₀ .entry n b
       alive n b a = elim (ℕ-discrete n m) [
-        | yes e ↦ (let z : not (eqb (cond true 0 (v₀ .mark n)) 0) ≡ true = rw (eq-eqb n m e) at a in absurd (no-both z refl))
+        | yes e ↦ (let z : not (eqb (cond true 0 (v₀ .mark n)) 0) ≡ true = rw (eq-eqb n m e) at a in
+            absurd (no-both z refl))
         | no e ↦ entry-there g₀ t t′ n b (λ hb k hk.
             s .rest (entryAt g₀ n b + k) (entry-of-other g₀ m (leb-false (g₀ .nodes) m o) n b k hb e hk)
             (entry-not-dead g₀ v₀ n b k hb hk (rw (ne-eqb n m e) at a)))
       ]
 
-  recover-unread : (lost : Lost) → SameButLost lost t t′ → (scratch : ℕ) → recoverOf t′ lost scratch ≡ recoverOf t lost scratch
+  recover-unread :
+      (lost : Lost) → SameButLost lost t t′ → (scratch : ℕ) → recoverOf t′ lost scratch ≡ recoverOf t lost scratch
   unfolding recoverChecked recoverOf
   recover-unread lost s scratch = by-cases (lostOutside g₀ lost) out inside
     where
@@ -186,7 +201,8 @@ module _ (t t′ : List ℕ) where
         entries = λ g h. rw (← sizes-geometry t g h) (lost-entries lost o s);
       })
 
-      checked : lostOutside g₀ lost ≡ true → (c : Checked) → sizesOf t ≡ c → recoverChecked t′ lost scratch c ≡ recoverChecked t lost scratch c
+      checked : lostOutside g₀ lost ≡ true → (c : Checked) → sizesOf t ≡ c
+          → recoverChecked t′ lost scratch c ≡ recoverChecked t lost scratch c
       checked o (Failed x) h = refl
       checked o (Passed g) h =
           let q : lostOutside g lost ≡ true = rw (sizes-geometry t g h) at o in
@@ -200,7 +216,8 @@ dead-lost lost t t′ s = record { size = s .size; rest = λ i _ h. s .rest i h 
 
 -- ---- THE THEOREM
 
-calls-unread : (t t′ : List ℕ) → SameButDead t t′ → (scratch : ℕ) (call : Call) → planOf t′ scratch call ≡ planOf t scratch call
+calls-unread :
+    (t t′ : List ℕ) → SameButDead t t′ → (scratch : ℕ) (call : Call) → planOf t′ scratch call ≡ planOf t scratch call
 unfolding planOf
 calls-unread t t′ s scratch (Format n m f) = format-same t t′ (s .size) (geometryOf n m f)
 calls-unread t t′ s scratch Check = ap checkedPlan (alike-fault (dead-alike t t′ s))
