@@ -2,4 +2,7 @@
 pub mod Steps
 pub mod StepCode
 pub mod Records
+pub mod Serving
+pub mod Lines
+pub mod Run
 pub mod StepExamples
