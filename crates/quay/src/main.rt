@@ -1,7 +1,5 @@
 // Reads the records of steps.bin, carries out each, and prints a line for it: record, answer, value, stores.
-mod print;
 mod run;
-mod serve;
 
 fn main() {
     let path = b"steps.bin";

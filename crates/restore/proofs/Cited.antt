@@ -134,5 +134,5 @@ carry-out-says κs a r s h = h
 pub rehearse-says :
     (κs : Lifetimes.Lfts 5) (a : World.ArgsD rehearse.signature κs) (r : World.ResD rehearse.signature κs)
     (s : Clauses.AtExit (Kinds.endedOf 5 rehearse-kinds.ps rehearse-kinds.r) κs) → rehearse-reads.Learnt κs a r s
-    → Rehearsed (record { calls = now (a .1 .0); call = a .1 .1 .0; limit = a .1 .1 .1 .0; lost = a .1 .1 .1 .1 .0; words = now (a .1 .1 .1 .1 .1 .0); limits = now (a .1 .1 .1 .1 .1 .1 .0); scratch = length (now (a .1 .1 .1 .1 .1 .1 .1 .0)) }) (now (a .0)) (now (s .0)) r
+    → Rehearsed (record { calls = now (a .1 .0); call = a .1 .1 .0; limit = a .1 .1 .1 .0; lost = a .1 .1 .1 .1 .0; words = now (a .1 .1 .1 .1 .1 .0); limits = now (a .1 .1 .1 .1 .1 .1 .0); scratch = length (now (a .1 .1 .1 .1 .1 .1 .1 .0)) }) (now (a .0)) (now (s .0)) (now (a .1 .1 .1 .1 .1 .1 .1 .0)) (now (s .1 .1 .1 .1 .1 .1 .1 .0)) r
 rehearse-says κs a r s h = h

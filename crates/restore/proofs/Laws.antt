@@ -1,6 +1,7 @@
 -- The laws of the definitions of `specs/`, for the proofs of this crate and of the crates over it.
 -- ---- the ways of the code
 pub mod CallCode
+pub mod OperationCode
 -- ---- every cut of every other call leaves survivors what they must have
 pub mod Surviving
 pub mod Standing

@@ -2,6 +2,7 @@
 
 -- ---- a call as a value, the plain memory, runs, strikes, histories, and THE STATEMENTS of demands 2 and 3
 pub mod Call
+pub mod Operations
 pub mod Memory
 pub mod Run
 pub mod Strike
@@ -17,3 +18,4 @@ pub mod Rehearsed
 pub mod CallCode
 -- ---- the rehearsal, and the examples
 pub mod Examples
+pub mod code

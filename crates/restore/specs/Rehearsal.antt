@@ -13,33 +13,24 @@ use Rattle.table.specs.Answers.{Plan, tableOf}
 use Rattle.entries.specs.declared.check.Checked.{Checked}
 use Rattle.entries.specs.declared.check.Checked.the-variants.{Passed, Failed}
 use Rattle.entries.specs.Check.{sizesOf}
-use Rattle.homes.specs.Places.{placeBy}
 use Rattle.survivors.specs.declared.lost.Lost.{Lost}
 use Rattle.survivors.specs.declared.lost.Lost.the-variants.{Nobody, Node}
 use Rattle.restore.specs.declared.call.Call.{Call}
-use Rattle.restore.specs.declared.call.Call.the-variants.{Format, Check, Stretch, Read, Write, Evict, Open, Create, Commit, Abandon, Recover}
-use Rattle.survivors.specs.Survivors.{lostBy}
-use Rattle.recovery.specs.Recover.{scratchWords, recoverOf}
-use Rattle.restore.specs.Run.{Step, geometryIn, wholeTable, planAt, run, Formatted}
+use Rattle.restore.specs.declared.call.Call.the-variants.{Check}
+use Rattle.restore.specs.declared.operations.Operation.{Operation}
+use Rattle.restore.specs.declared.operations.Operation.the-variants.{Known, Unknown}
+use Rattle.restore.specs.Operations.{callBy}
+use Rattle.recovery.specs.Recover.{scratchWords, recoverOf, scratchAfter}
+use Rattle.restore.specs.CallCode.{scratchBy}
+use Rattle.restore.specs.Run.{Step, geometryIn, wholeTable, planAt, tableBy, run, Formatted}
 use Rattle.restore.specs.Strike.{canBeCut, liveOrNone, Attempt, brokenOff}
 
--- ---- the list of calls: five words a call, its operation, three arguments and a flag. The flag of an Evict is its place (0 current, else kept), that of a
--- Recover says that none was lost (0: the node of the first argument, else none).
+-- ---- the list of calls: five words a call, its operation, three arguments and a flag
 
--- an operation that is none of these is a check
-unfoldable pub callBy : ℕ → ℕ → ℕ → ℕ → ℕ → Call
-callBy operation x y z flag =
-    cond (eqb operation 0) (Format x y z)
-    (cond (eqb operation 1) (Read x y)
-    (cond (eqb operation 2) (Write x y z)
-    (cond (eqb operation 3) (Evict x y (placeBy flag))
-    (cond (eqb operation 4) Open
-    (cond (eqb operation 5) Create
-    (cond (eqb operation 6) Commit
-    (cond (eqb operation 7) Abandon
-    (cond (eqb operation 8) (Recover (lostBy flag x))
-    (cond (eqb operation 10) (Stretch x)
-    Check)))))))))
+-- an operation that is not known is a check
+abbrev pub callOrCheck : Operation → Call
+callOrCheck (Known call) = call
+callOrCheck Unknown = Check
 
 abbrev pub callCount : List ℕ → ℕ
 callCount words = length words / 5
@@ -48,7 +39,8 @@ callCount words = length words / 5
 unfoldable pub callAt : List ℕ → ℕ → Call
 callAt words i =
     cond (ltb i (callCount words))
-    (callBy (getD words (5 * i) 0) (getD words (5 * i + 1) 0) (getD words (5 * i + 2) 0) (getD words (5 * i + 3) 0) (getD words (5 * i + 4) 0))
+    (callOrCheck
+    (callBy (getD words (5 * i) 0) (getD words (5 * i + 1) 0) (getD words (5 * i + 2) 0) (getD words (5 * i + 3) 0) (getD words (5 * i + 4) 0)))
     Check
 
 -- the first k calls of the list; each gets the same scratch
@@ -90,6 +82,22 @@ attemptsAt scratch enough (limit ∷ limits) = record { limit = limit; scratch =
 -- any scratch
 abbrev pub brokenAt : Lost → ℕ → List ℕ → List ℕ → List ℕ
 brokenAt lost scratch limits t = brokenOff lost (attemptsAt {least = 0} scratch (omega arith) limits) t
+
+-- ---- the scratch: "Every call's contract gives its answer and each word of table and scratch"
+
+-- after whole calls, each on the table as the last one left it
+unfoldable pub scratchRun : List ℕ → List Step → List ℕ → List ℕ
+scratchRun t [] s = s
+scratchRun t (x ∷ xs) s = scratchRun (tableBy t x) xs (scratchBy (x .call) (planAt t x) s)
+
+-- after recoveries that are broken off: "answer, value and scratch are the whole call's"
+unfoldable pub scratchBroken : {least : ℕ} → Lost → List (Attempt least) → List ℕ → List ℕ → List ℕ
+scratchBroken lost [] t s = s
+scratchBroken lost (a ∷ rest) t s =
+    scratchBroken lost rest (tableOf (recoverOf t lost (a .scratch)) (a .limit) t) (scratchAfter (recoverOf t lost (a .scratch)) s)
+
+abbrev pub scratchBrokenAt : Lost → ℕ → List ℕ → List ℕ → List ℕ → List ℕ
+scratchBrokenAt lost scratch limits t s = scratchBroken lost (attemptsAt {least = 0} scratch (omega arith) limits) t s
 
 -- ---- the rehearsal
 
@@ -134,6 +142,13 @@ module _ (t₀ : List ℕ) (p : Script) where
 
   abbrev pub recovered : List ℕ
   recovered = wholeTable lastRecovery attempted
+
+  -- the scratch, one call after the other
+  abbrev pub scratchLeft : List ℕ → List ℕ
+  scratchLeft s =
+      let ran = scratchRun t₀ wholeCalls s in
+      let cut-off = scratchBy (p .call) (planAt before next) ran in
+      scratchAfter lastRecovery (scratchBrokenAt (p .lost) (p .scratch) (p .limits) struck cut-off)
 
   -- what makes it a strike on a formatted table
   pub record Demanded : Type 0 where

@@ -12,7 +12,7 @@ use Rattle.restore.specs.Run.{geometryIn, storeCount, run}
 use Rattle.restore.specs.Strike.{Hit, Strike}
 use Rattle.restore.specs.Strike as strikes
 use Rattle.restore.specs.Demand3.{Restored}
-use Rattle.restore.specs.Rehearsal.{attemptsAt, Script, wholeCalls, before, cut, next, struck, lastRecovery, recovered, Demanded}
+use Rattle.restore.specs.Rehearsal.{attemptsAt, Script, wholeCalls, before, cut, next, struck, lastRecovery, recovered, scratchLeft, Demanded}
 
 -- the strike, of what was lent, where the words put on the lost node are a hit
 module _ (t₀ : List ℕ) (p : Script) (d : Demanded t₀ p) (hit : Hit (geometryIn (before t₀ p)) (p .lost) (cut t₀ p) (struck t₀ p)) where
@@ -39,8 +39,10 @@ module _ (t₀ : List ℕ) (p : Script) where
     pub answer : r ≡ Done 0 (storeCount (strikes.lastRecovery (strike t₀ p d hit)))
     pub restored : Restored t₀ (d .formatted) (wholeCalls t₀ p) (strike t₀ p d hit)
 
--- the table and the answer are those of the last recovery, for any script and table; and the demand, "Unless refusal 14 .. applies"
-pub record Rehearsed (p : Script) (t₀ t′ : List ℕ) (r : Answer) : Type 0 where
+-- the table and the answer are those of the last recovery, for any script, table and scratch, and the scratch is what the calls leave of it one after
+-- the other; and the demand, "Unless refusal 14 .. applies"
+pub record Rehearsed (p : Script) (t₀ t′ s s′ : List ℕ) (r : Answer) : Type 0 where
   pub table : t′ ≡ recovered t₀ p
+  pub scratch : s′ ≡ scratchLeft t₀ p s
   pub answer : r ≡ answerOf (lastRecovery t₀ p) (storeCount (lastRecovery t₀ p))
   pub demand : (d : Demanded t₀ p) → tooFewLeft t₀ p ≡ false → Restores t₀ p d t′ r

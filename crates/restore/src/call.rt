@@ -4,6 +4,9 @@ use homes::places::Place;
 use survivors::lost::Lost;
 use table::answers::Answer;
 
+// A limit that no list of stores reaches.
+pub const WHOLE: u64 = 0xffff_ffff_ffff_ffff;
+
 pub enum Call {
     Format { nodes: u64, items: u64, frames: u64 },
     Check,

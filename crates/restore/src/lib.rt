@@ -1,3 +1,4 @@
 // A call as a value, and demand 3 carried out.
 pub mod call;
+pub mod operations;
 pub mod rehearse;

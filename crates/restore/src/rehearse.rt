@@ -2,70 +2,27 @@
 ghost use mathlib.Core.Path.{_≡_};
 ghost use Prim.Native.Nat.{_<_, min};
 ghost use lib.ListN.{length};
-ghost use Rattle.table.specs.Answers.{tableOf};
-ghost use Rattle.restore.specs.Call.{planOf};
-ghost use Rattle.restore.specs.Run.{run};
-ghost use Rattle.restore.specs.Rehearsal.{callBy, callCount, callAt, stepsTo, nodeWordAt, nodeWords, putTo, hitNode, hitBy, brokenAt};
+ghost use Rattle.restore.specs.Rehearsal.{callOrCheck, callAt, nodeWordAt, nodeWords, putTo, hitNode, hitBy};
 ghost use Rattle.restore.specs.Rehearsed.{Rehearsed};
+ghost use Rattle.restore.specs.code.Rehearsing.{RanCalls, Struck, BrokenOff};
 use crate::call::Call;
+use crate::call::WHOLE;
+use crate::operations;
+use crate::operations::Operation;
 use entries::check::Checked;
 use survivors::lost::Lost;
 use table::answers::Answer;
 use table::geometry::Geometry;
 use table::stores;
 
-// A limit that no call reaches.
-const WHOLE: u64 = 0xffff_ffff_ffff_ffff;
-
-// A call of its five words.
-fn call_by(operation: u64, x: u64, y: u64, z: u64, flag: u64) -> Call
-    ensures { λ r. ⌜ r ≡ callBy operation x y z flag ⌝ }
+// The call of an operation; a check where none is known.
+fn call_or_check(operation: Operation) -> Call
+    ensures { λ r. ⌜ r ≡ callOrCheck operation ⌝ }
 {
-    let place = homes::places::place_by(flag);
-    let lost = survivors::lost::lost_by(flag, x);
-    if operation == 0 {
-        return Call::Format {
-            nodes: x,
-            items: y,
-            frames: z,
-        };
+    match operation {
+        Operation::Known(call) => call,
+        Operation::Unknown => Call::Check,
     }
-    if operation == 1 {
-        return Call::Read { node: x, item: y };
-    }
-    if operation == 2 {
-        return Call::Write {
-            node: x,
-            item: y,
-            value: z,
-        };
-    }
-    if operation == 3 {
-        return Call::Evict {
-            node: x,
-            item: y,
-            place,
-        };
-    }
-    if operation == 4 {
-        return Call::Open;
-    }
-    if operation == 5 {
-        return Call::Create;
-    }
-    if operation == 6 {
-        return Call::Commit;
-    }
-    if operation == 7 {
-        return Call::Abandon;
-    }
-    if operation == 8 {
-        return Call::Recover { lost };
-    }
-    if operation == 10 {
-        return Call::Stretch { node: x };
-    }
-    Call::Check
 }
 
 // Call i of a list of words, five a call; past the end a check.
@@ -79,14 +36,15 @@ pub fn call_at(words: &[u64], i: usize) -> Call
         let y = stores::word(words, at + 2);
         let z = stores::word(words, at + 3);
         let flag = stores::word(words, at + 4);
-        return call_by(operation, x, y, z, flag);
+        let named = operations::call_by(operation, x, y, z, flag);
+        return call_or_check(named);
     }
     Call::Check
 }
 
 // The whole calls of a list.
 fn run_calls(table: &mut [u64], calls: &[u64], scratch: &mut [u64])
-    ensures { λ _. ⌜ now (table .exit) ≡ run (now (table .entry)) (stepsTo (now (calls .entry)) (length (now (scratch .entry))) (callCount (now (calls .entry)))) ⌝ }
+    ensures { λ _. ⌜ RanCalls (now (calls .entry)) (now (table .entry)) (now (table .exit)) (now (scratch .entry)) (now (scratch .exit)) ⌝ }
 {
     let count = calls.len() / 5;
     let mut i: usize = 0;
@@ -159,7 +117,7 @@ fn hit(table: &mut [u64], lost: Lost, words: &[u64])
 
 // Recoveries that are broken off, one for each limit.
 fn break_off(table: &mut [u64], lost: Lost, limits: &[u64], scratch: &mut [u64])
-    ensures { λ _. ⌜ now (table .exit) ≡ brokenAt lost (length (now (scratch .entry))) (now (limits .entry)) (now (table .entry)) ⌝ }
+    ensures { λ _. ⌜ BrokenOff lost (now (limits .entry)) (now (table .entry)) (now (table .exit)) (now (scratch .entry)) (now (scratch .exit)) ⌝ }
 {
     let count = limits.len();
     let mut i: usize = 0;
@@ -172,7 +130,7 @@ fn break_off(table: &mut [u64], lost: Lost, limits: &[u64], scratch: &mut [u64])
 
 // A call, cut at a limit, and then the hit.
 fn strike(table: &mut [u64], call: Call, limit: u64, lost: Lost, words: &[u64], scratch: &mut [u64])
-    ensures { λ _. ⌜ now (table .exit) ≡ hitBy lost (now (words .entry)) (tableOf (planOf (now (table .entry)) (length (now (scratch .entry))) call) limit (now (table .entry))) ⌝ }
+    ensures { λ _. ⌜ Struck call limit lost (now (words .entry)) (now (table .entry)) (now (table .exit)) (now (scratch .entry)) (now (scratch .exit)) ⌝ }
 {
     crate::call::carry_out(table, call, scratch, limit);
     hit(table, lost, words);
@@ -189,7 +147,7 @@ pub fn rehearse(
     limits: &[u64],
     scratch: &mut [u64],
 ) -> Answer
-    ensures { λ r. ⌜ Rehearsed (record { calls = now (calls .entry); call = call; limit = limit; lost = lost; words = now (words .entry); limits = now (limits .entry); scratch = length (now (scratch .entry)) }) (now (table .entry)) (now (table .exit)) r ⌝ }
+    ensures { λ r. ⌜ Rehearsed (record { calls = now (calls .entry); call = call; limit = limit; lost = lost; words = now (words .entry); limits = now (limits .entry); scratch = length (now (scratch .entry)) }) (now (table .entry)) (now (table .exit)) (now (scratch .entry)) (now (scratch .exit)) r ⌝ }
 {
     run_calls(table, calls, scratch);
     strike(table, call, limit, lost, words, scratch);

@@ -1,12 +1,21 @@
 // A record's two words, decoded.
 ghost use mathlib.Core.Path.{_≡_};
-ghost use Rattle.steps.specs.Steps.{nodeOf, itemOf, placeOf, restOf, formatStep, readStep, writeStep, evictStep, bareStep, recoverStep, stepOf};
+ghost use Rattle.steps.specs.Steps.{operationOf, nodeOf, itemOf, placeOf, restOf, unusedZero, stepBy, formatStep, callStep, stepOf};
 use restore::call::Call;
+use restore::operations;
+use restore::operations::Operation;
+use table::words;
 
 // What a record asks for: a call, or nothing that is in form.
 pub enum Step {
     Asked(Call),
     Malformed,
+}
+
+fn operation_of(first: u64) -> u64
+    ensures { λ r. ⌜ r ≡ operationOf first ⌝ }
+{
+    first / 0x1000_0000_0000_0000
 }
 
 fn node_of(first: u64) -> u64
@@ -34,85 +43,55 @@ fn rest_of(first: u64) -> u64
     first % 0x8000_0000_0000
 }
 
-// A record of operation 0.
+// Whether the fields that an operation does not use are zero.
+fn unused_zero(operation: u64, node: u64, item: u64, place: u64, value: u64) -> bool
+    ensures { λ r. ⌜ r ≡ unusedZero operation node item place value ⌝ }
+{
+    match operation {
+        operations::READ => (place == 0) & (value == 0),
+        operations::WRITE => place == 0,
+        operations::EVICT => value == 0,
+        operations::RECOVER => (item == 0) & ((value == 0) & ((place == 0) | (node == 0))),
+        _ => (node == 0) & ((item == 0) & ((place == 0) & (value == 0))),
+    }
+}
+
+// The step of an operation.
+fn step_by(operation: Operation) -> Step
+    ensures { λ r. ⌜ r ≡ stepBy operation ⌝ }
+{
+    match operation {
+        Operation::Known(call) => Step::Asked(call),
+        Operation::Unknown => Step::Malformed,
+    }
+}
+
+// A record of a format: its first word is laid out as the table's word 0.
 fn format_step(first: u64, second: u64) -> Step
     ensures { λ r. ⌜ r ≡ formatStep first second ⌝ }
 {
-    if table::words::size_form(first) & (second == 0) {
-        return Step::Asked(Call::Format {
-            nodes: table::words::nodes_of(first),
-            items: table::words::items_of(first),
-            frames: table::words::frames_of(first),
-        });
+    if words::size_form(first) & (second == 0) {
+        let nodes = words::nodes_of(first);
+        let items = words::items_of(first);
+        let frames = words::frames_of(first);
+        let named = operations::call_by(operations::FORMAT, nodes, items, frames, 0);
+        return step_by(named);
     }
     Step::Malformed
 }
 
-// A record of operation 1.
-fn read_step(first: u64, second: u64) -> Step
-    ensures { λ r. ⌜ r ≡ readStep first second ⌝ }
+// A record of any other operation.
+fn call_step(first: u64, second: u64) -> Step
+    ensures { λ r. ⌜ r ≡ callStep first second ⌝ }
 {
-    if (place_of(first) == 0) & ((rest_of(first) == 0) & (second == 0)) {
-        return Step::Asked(Call::Read {
-            node: node_of(first),
-            item: item_of(first),
-        });
-    }
-    Step::Malformed
-}
-
-// A record of operation 2.
-fn write_step(first: u64, second: u64) -> Step
-    ensures { λ r. ⌜ r ≡ writeStep first second ⌝ }
-{
-    if (place_of(first) == 0) & (rest_of(first) == 0) {
-        return Step::Asked(Call::Write {
-            node: node_of(first),
-            item: item_of(first),
-            value: second,
-        });
-    }
-    Step::Malformed
-}
-
-// A record of operation 3.
-fn evict_step(first: u64, second: u64) -> Step
-    ensures { λ r. ⌜ r ≡ evictStep first second ⌝ }
-{
-    if (rest_of(first) == 0) & (second == 0) {
-        let place = homes::places::place_by(place_of(first));
-        return Step::Asked(Call::Evict {
-            node: node_of(first),
-            item: item_of(first),
-            place,
-        });
-    }
-    Step::Malformed
-}
-
-// A record of an operation that uses no field.
-fn bare_step(call: Call, first: u64, second: u64) -> Step
-    ensures { λ r. ⌜ r ≡ bareStep call first second ⌝ }
-{
-    if (node_of(first) == 0)
-        & ((item_of(first) == 0)
-            & ((place_of(first) == 0) & ((rest_of(first) == 0) & (second == 0))))
-    {
-        return Step::Asked(call);
-    }
-    Step::Malformed
-}
-
-// A record of operation 8.
-fn recover_step(first: u64, second: u64) -> Step
-    ensures { λ r. ⌜ r ≡ recoverStep first second ⌝ }
-{
-    if (item_of(first) == 0)
-        & ((rest_of(first) == 0)
-            & ((second == 0) & ((place_of(first) == 0) | (node_of(first) == 0))))
-    {
-        let lost = survivors::lost::lost_by(place_of(first), node_of(first));
-        return Step::Asked(Call::Recover { lost });
+    let operation = operation_of(first);
+    let node = node_of(first);
+    let item = item_of(first);
+    let place = place_of(first);
+    let unused = unused_zero(operation, node, item, place, second);
+    if (rest_of(first) == 0) & unused {
+        let named = operations::call_by(operation, node, item, second, place);
+        return step_by(named);
     }
     Step::Malformed
 }
@@ -121,16 +100,8 @@ fn recover_step(first: u64, second: u64) -> Step
 pub fn decode(first: u64, second: u64) -> Step
     ensures { λ r. ⌜ r ≡ stepOf first second ⌝ }
 {
-    match first / 0x1000_0000_0000_0000 {
-        0 => format_step(first, second),
-        1 => read_step(first, second),
-        2 => write_step(first, second),
-        3 => evict_step(first, second),
-        4 => bare_step(Call::Open, first, second),
-        5 => bare_step(Call::Create, first, second),
-        6 => bare_step(Call::Commit, first, second),
-        7 => bare_step(Call::Abandon, first, second),
-        8 => recover_step(first, second),
-        _ => Step::Malformed,
+    if operation_of(first) == operations::FORMAT {
+        return format_step(first, second);
     }
+    call_step(first, second)
 }

@@ -1,10 +1,11 @@
 // The vectors of a file, one after the other.
 ghost use Prim.Native.Nat.{_+_, _<_, _≤_, _^_};
 ghost use mathlib.Core.Path.{_≡_};
-use crate::calls::Asked;
 use crate::compare;
 use crate::read;
 use crate::read::Vector;
+use restore::operations;
+use restore::operations::Operation;
 use table::answers;
 
 // The most words of a table.
@@ -38,10 +39,10 @@ fn run_call(
     scratch: &mut [u64],
     left: &[u64],
 ) -> Outcome {
-    let asked = crate::calls::call_of(v);
-    match asked {
-        Asked::Unknown => Outcome::Malformed,
-        Asked::Known(call) => {
+    let named = operations::call_by(v.operation, v.first, v.second, v.third, v.choice);
+    match named {
+        Operation::Unknown => Outcome::Malformed,
+        Operation::Known(call) => {
             let answer = restore::call::carry_out(table, call, scratch, v.limit);
             let answered = compare::same_answer(number, v, answers::numbers_of(answer));
             let stored = compare::same_words(number, b" table ", table, expected);

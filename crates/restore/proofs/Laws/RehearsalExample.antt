@@ -9,11 +9,12 @@ use Rattle.survivors.specs.declared.lost.Lost.the-variants.{Node}
 use Rattle.restore.specs.declared.call.Call.the-variants.{Format, Write, Open, Create, Commit}
 use Rattle.restore.specs.Memory.{savedIn}
 use Rattle.restore.specs.Run.{commitsFrom, memoryFrom, Formatted, tableBy, run}
-use Rattle.restore.specs.Rehearsal.{callBy, callAt, stepsTo, nodeWordAt, putTo, hitNode, hitSized, hitBy, Script, wholeCalls, Demanded}
+use Rattle.restore.specs.Rehearsal.{callAt, stepsTo, nodeWordAt, putTo, hitNode, hitSized, hitBy, Script, wholeCalls, Demanded}
+use Rattle.restore.specs.Operations.{callBy}
 use Rattle.restore.specs.Rehearsed.{strike, tooFewLeft}
 use Rattle.restore.proofs.Laws.RehearsalHit.{hit-struck}
 use Rattle.restore.specs.Demand3.{memory}
-use Rattle.counting.specs.Counting.{every, sum, count, exists, first, firstOr}
+use Rattle.counting.specs.Counting.{every, sum, count, first, firstOr, exists}
 use Rattle.counting.specs.Values.{valuesOf}
 use Rattle.table.specs.Geometry.{geometryOf}
 use Rattle.table.specs.Changes.{changeOf}

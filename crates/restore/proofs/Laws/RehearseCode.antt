@@ -3,7 +3,7 @@ use Prim.Native.Nat.{ℕ, _+_, _-_, _*_, _^_, _≤_, _<_, min}
 use mathlib.Core.Path.{_≡_, refl, sym, ap, _∙_}
 use mathlib.Core.Logic.{_≢_}
 use mathlib.Core.Bool.{true, false}
-use mathlib.Core.List.{List, [], _∷_}
+use mathlib.Core.List.{List, [], _∷_, _++_}
 use native.Mathlib.Omega.{arith}
 use native.Mathlib.Numerals.{add-one}
 use lib.ListN.{length, getD, drop}
@@ -20,85 +20,36 @@ use Rattle.table.specs.Answers.{Plan, refuse, nothingLeft, carry, answerOf, tab
 use Rattle.entries.specs.declared.check.Checked.{Checked}
 use Rattle.entries.specs.declared.check.Checked.the-variants.{Passed, Failed}
 use Rattle.entries.specs.Check.{sizesOf}
-use Rattle.homes.specs.declared.places.Place.{Place}
-use Rattle.homes.specs.Places.{placeBy}
 use Rattle.survivors.specs.declared.lost.Lost.{Lost}
 use Rattle.survivors.specs.declared.lost.Lost.the-variants.{Nobody, Node}
 use Rattle.restore.specs.declared.call.Call.{Call}
-use Rattle.restore.specs.declared.call.Call.the-variants.{Format, Check, Stretch, Read, Write, Evict, Open, Create, Commit, Abandon, Recover}
-use Rattle.survivors.specs.Survivors.{lostBy}
-use Rattle.recovery.specs.Recover.{recoverOf, RecoverMeets}
+use Rattle.restore.specs.declared.call.Call.the-variants.{Check, Recover}
+use Rattle.restore.specs.declared.operations.Operation.{Operation}
+use Rattle.restore.specs.Operations.{callBy}
+use Rattle.recovery.specs.Recover.{recoverOf, scratchAfter, RecoverMeets}
 use Rattle.recovery.proofs.Laws.RecoverPlan.{recover-carries, carries-recover}
 use Rattle.restore.specs.Call.{planOf, accepted}
-use Rattle.restore.specs.CallCode.{CarriedOut}
-use Rattle.restore.specs.Run.{storeCount, wholeTable, tableBy, run}
+use Rattle.restore.specs.CallCode.{scratchBy, CarriedOut}
+use Rattle.restore.specs.Run.{Step, storeCount, wholeTable, planAt, tableBy, run}
 use Rattle.restore.proofs.Laws.RunPoints.{run-one}
 use Rattle.restore.specs.Strike.{Strike, brokenOff}
 use Rattle.restore.specs.Strike as strikes
 use Rattle.restore.proofs.Laws.WholeAt.{whole-at, whole-count}
 use Rattle.restore.specs.Demand3.{Restored}
 use Rattle.restore.proofs.Laws.Demand3Theorem.{demand3}
-use Rattle.restore.specs.Rehearsal.{callAt, callBy, callCount, stepsTo, nodeWordAt, nodeWords, putTo, hitNode, hitSized, hitBy, attemptsAt, brokenAt, Script, wholeCalls, struck, attempted, lastRecovery, recovered, Demanded}
+use Rattle.restore.specs.Rehearsal.{callOrCheck, callAt, callCount, stepsTo, nodeWordAt, nodeWords, putTo, hitNode, hitSized, hitBy, attemptsAt, brokenAt, scratchRun, scratchBroken, scratchBrokenAt, Script, wholeCalls, next, before, struck, attempted, lastRecovery, recovered, Demanded}
+use Rattle.restore.specs.code.Rehearsing.{RanCalls, Struck, BrokenOff}
 use Rattle.restore.specs.Rehearsed.{strike, tooFewLeft, Restores, Rehearsed}
 use Rattle.restore.proofs.Laws.RehearsalHit.{hit-struck}
 
 -- ---- a call of its words
 
-module _ (operation x y z flag : ℕ) where
-  pub by-format : operation ≡ 0 → Format x y z ≡ callBy operation x y z flag
-  unfolding callBy
-  by-format e = rw e refl
-
-  pub by-read : operation ≡ 1 → Read x y ≡ callBy operation x y z flag
-  unfolding callBy
-  by-read e = rw e refl
-
-  pub by-write : operation ≡ 2 → Write x y z ≡ callBy operation x y z flag
-  unfolding callBy
-  by-write e = rw e refl
-
-  pub by-open : operation ≡ 4 → Open ≡ callBy operation x y z flag
-  unfolding callBy
-  by-open e = rw e refl
-
-  pub by-create : operation ≡ 5 → Create ≡ callBy operation x y z flag
-  unfolding callBy
-  by-create e = rw e refl
-
-  pub by-commit : operation ≡ 6 → Commit ≡ callBy operation x y z flag
-  unfolding callBy
-  by-commit e = rw e refl
-
-  pub by-abandon : operation ≡ 7 → Abandon ≡ callBy operation x y z flag
-  unfolding callBy
-  by-abandon e = rw e refl
-
-  pub by-stretch : operation ≡ 10 → Stretch x ≡ callBy operation x y z flag
-  unfolding callBy
-  by-stretch e = rw e refl
-
-  pub by-evict : operation ≡ 3 → {place : Place} → place ≡ placeBy flag → Evict x y place ≡ callBy operation x y z flag
-  unfolding callBy
-  by-evict e p = rw (e, p) refl
-
-  pub by-recover : operation ≡ 8 → {lost : Lost} → lost ≡ lostBy flag x → Recover lost ≡ callBy operation x y z flag
-  unfolding callBy
-  by-recover e p = rw (e, p) refl
-
-  pub by-check :
-      operation ≢ 0 → operation ≢ 1 → operation ≢ 2 → operation ≢ 3 → operation ≢ 4 → operation ≢ 5 → operation ≢ 6 → operation ≢ 7 → operation ≢ 8
-      → operation ≢ 10 → Check ≡ callBy operation x y z flag
-  unfolding callBy
-  by-check e₀ e₁ e₂ e₃ e₄ e₅ e₆ e₇ e₈ e₁₀ =
-      let o = operation in
-      simp (ne-eqb o 0 e₀, ne-eqb o 1 e₁, ne-eqb o 2 e₂, ne-eqb o 3 e₃, ne-eqb o 4 e₄, ne-eqb o 5 e₅, ne-eqb o 6 e₆, ne-eqb o 7 e₇, ne-eqb o 8 e₈, ne-eqb o 10 e₁₀)
-
 pub call-here :
-    (words : List ℕ) (i : ℕ) {operation x y z flag : ℕ} {call : Call} → i < callCount words → operation ≡ getD words (5 * i) 0
+    (words : List ℕ) (i : ℕ) {operation x y z flag : ℕ} {named : Operation} {call : Call} → i < callCount words → operation ≡ getD words (5 * i) 0
     → x ≡ getD words (5 * i + 1) 0 → y ≡ getD words (5 * i + 2) 0 → z ≡ getD words (5 * i + 3) 0 → flag ≡ getD words (5 * i + 4) 0
-    → call ≡ callBy operation x y z flag → call ≡ callAt words i
+    → named ≡ callBy operation x y z flag → call ≡ callOrCheck named → call ≡ callAt words i
 unfolding callAt
-call-here words i h a b c d e f = f ∙ rw (lt-ltb i (callCount words) h, a, b, c, d, e) refl
+call-here words i h a b c d e f k = k ∙ rw (f, lt-ltb i (callCount words) h, a, b, c, d, e) refl
 
 pub call-past : (words : List ℕ) (i : ℕ) → callCount words ≤ i → Check ≡ callAt words i
 unfolding callAt
@@ -114,20 +65,39 @@ pub ran-none : (words : List ℕ) (scratch : ℕ) (t : List ℕ) → t ≡ run t
 unfolding run stepsTo
 ran-none words scratch t = refl
 
-pub ran-next :
-    (words t : List ℕ) (i : ℕ) {scratch : ℕ} {call : Call} {t₁ t₂ s s₂ : List ℕ} {r : Answer} → length s ≡ scratch
-    → t₁ ≡ run t (stepsTo words scratch i) → call ≡ callAt words i → CarriedOut call unlimited t₁ t₂ s s₂ r → t₂ ≡ run t (stepsTo words scratch (i + 1))
-unfolding stepsTo
-ran-next words t i {scratch} {call} {t₁} {t₂} {s} n e c o =
-    rw add-one (o .meets .table ∙ whole-at t₁ (length s) call unlimited (omega arith) ∙ same ∙ sym (run-one t (stepsTo words scratch i) (record { call = callAt words i; scratch = scratch })))
-  where
-    same : tableBy t₁ (record { call = call; scratch = length s }) ≡ tableBy (run t (stepsTo words scratch i)) (record { call = callAt words i; scratch = scratch })
-    same = rw (n, e, c) refl
+pub scratch-none : (words : List ℕ) (scratch : ℕ) (t s : List ℕ) → s ≡ scratchRun t (stepsTo words scratch 0) s
+unfolding scratchRun stepsTo
+scratch-none words scratch t s = refl
+
+scratch-one :
+    (t : List ℕ) (calls : List Step) (x : Step) (s : List ℕ)
+    → scratchRun t (calls ++ (x ∷ [])) s ≡ scratchBy (x .call) (planAt (run t calls) x) (scratchRun t calls s)
+unfolding run scratchRun
+scratch-one t [] x s = refl
+scratch-one t (y ∷ ys) x s = scratch-one (tableBy t y) ys x (scratchBy (y .call) (planAt t y) s)
+
+module _
+    (words t : List ℕ) (i : ℕ) {scratch : ℕ} {call : Call} {t₁ t₂ s s₂ : List ℕ} {r : Answer} (n : length s ≡ scratch)
+    (e : t₁ ≡ run t (stepsTo words scratch i)) (c : call ≡ callAt words i) (o : CarriedOut call unlimited t₁ t₂ s s₂ r) where
+  pub ran-next : t₂ ≡ run t (stepsTo words scratch (i + 1))
+  unfolding stepsTo
+  ran-next =
+      rw add-one (o .meets .table ∙ whole-at t₁ (length s) call unlimited (omega arith) ∙ same ∙ sym (run-one t (stepsTo words scratch i) (record { call = callAt words i; scratch = scratch })))
+    where
+      same : tableBy t₁ (record { call = call; scratch = length s }) ≡ tableBy (run t (stepsTo words scratch i)) (record { call = callAt words i; scratch = scratch })
+      same = rw (n, e, c) refl
+
+  pub scratch-next : (s₀ : List ℕ) → s ≡ scratchRun t (stepsTo words scratch i) s₀ → s₂ ≡ scratchRun t (stepsTo words scratch (i + 1)) s₀
+  unfolding stepsTo
+  scratch-next s₀ k = rw add-one (o .scratch ∙ same ∙ sym (scratch-one t (stepsTo words scratch i) (record { call = callAt words i; scratch = scratch }) s₀))
+    where
+      same : scratchBy call (planOf t₁ (length s) call) s ≡ scratchBy (callAt words i) (planOf (run t (stepsTo words scratch i)) scratch (callAt words i)) (scratchRun t (stepsTo words scratch i) s₀)
+      same = rw (n, e, c) (ap (scratchBy (callAt words i) (planOf (run t (stepsTo words scratch i)) scratch (callAt words i))) k)
 
 pub ran-end :
-    (words t : List ℕ) (scratch : ℕ) {i k : ℕ} {t₁ : List ℕ} → i ≤ k → k ≤ i → k ≡ callCount words → t₁ ≡ run t (stepsTo words scratch i)
-    → t₁ ≡ run t (stepsTo words scratch (callCount words))
-ran-end words t scratch {i} a b c e = let d : i ≡ callCount words = omega arith in rw d at e
+    (words t s : List ℕ) {i k : ℕ} {t₁ s₁ : List ℕ} → i ≤ k → k ≤ i → k ≡ callCount words → t₁ ≡ run t (stepsTo words (length s) i)
+    → s₁ ≡ scratchRun t (stepsTo words (length s) i) s → RanCalls words t t₁ s s₁
+ran-end words t s {i} a b c e f = let d : i ≡ callCount words = omega arith in record { table = rw d at e; scratch = rw d at f }
 
 -- ---- the hit
 
@@ -180,26 +150,38 @@ hit-passed lost words t e p q h = rw (e, ← p, q) h
 
 pub struck-is :
     (lost : Lost) (words : List ℕ) {call : Call} {limit : ℕ} {t t₁ t₂ s s₁ : List ℕ} {r : Answer} → CarriedOut call limit t t₁ s s₁ r
-    → t₂ ≡ hitBy lost words t₁ → t₂ ≡ hitBy lost words (tableOf (planOf t (length s) call) limit t)
-struck-is lost words o e = e ∙ ap (hitBy lost words) (o .meets .table)
+    → t₂ ≡ hitBy lost words t₁ → Struck call limit lost words t t₂ s s₁
+struck-is lost words o e = record { table = e ∙ ap (hitBy lost words) (o .meets .table); scratch = o .scratch }
 
 -- ---- the recoveries that are broken off
 
 pub broken-none : (lost : Lost) (scratch : ℕ) (limits t : List ℕ) → brokenAt lost scratch (drop 0 limits) t ≡ brokenAt lost scratch limits t
 broken-none lost scratch limits t = refl
 
-pub broken-next :
-    (lost : Lost) (limits t : List ℕ) (i : ℕ) {scratch limit : ℕ} {t₁ t₂ s s₂ : List ℕ} {r : Answer} → i < length limits → length s ≡ scratch
-    → brokenAt lost scratch (drop i limits) t₁ ≡ brokenAt lost scratch limits t → limit ≡ getD limits i 0
-    → RecoverMeets (recoverOf t₁ lost (length s)) limit t₁ t₂ s s₂ r → brokenAt lost scratch (drop (i + 1) limits) t₂ ≡ brokenAt lost scratch limits t
-unfolding brokenOff attemptsAt
-broken-next lost limits t i h n e l o = rw (add-one, o .meets .table, l, n) (rw (drop-cons limits i 0 h) at e)
+pub scratch-whole : (lost : Lost) (scratch : ℕ) (limits t s : List ℕ) → scratchBrokenAt lost scratch (drop 0 limits) t s ≡ scratchBrokenAt lost scratch limits t s
+scratch-whole lost scratch limits t s = refl
+
+module _
+    (lost : Lost) (limits t : List ℕ) (i : ℕ) {scratch limit : ℕ} {t₁ t₂ s s₂ : List ℕ} {r : Answer} (h : i < length limits) (n : length s ≡ scratch)
+    (l : limit ≡ getD limits i 0) (o : RecoverMeets (recoverOf t₁ lost (length s)) limit t₁ t₂ s s₂ r) where
+  pub broken-next :
+      brokenAt lost scratch (drop i limits) t₁ ≡ brokenAt lost scratch limits t → brokenAt lost scratch (drop (i + 1) limits) t₂ ≡ brokenAt lost scratch limits t
+  unfolding brokenOff attemptsAt
+  broken-next e = rw (add-one, o .meets .table, l, n) (rw (drop-cons limits i 0 h) at e)
+
+  pub scratch-broken :
+      (s₀ : List ℕ) → scratchBrokenAt lost scratch (drop i limits) t₁ s ≡ scratchBrokenAt lost scratch limits t s₀
+      → scratchBrokenAt lost scratch (drop (i + 1) limits) t₂ s₂ ≡ scratchBrokenAt lost scratch limits t s₀
+  unfolding scratchBroken attemptsAt
+  scratch-broken s₀ e = rw (add-one, o .meets .table, o .scratch, l, n) (rw (drop-cons limits i 0 h) at e)
 
 pub broken-end :
-    (lost : Lost) (scratch : ℕ) (limits t : List ℕ) {i : ℕ} {t₁ : List ℕ} → i ≤ length limits → length limits ≤ i
-    → brokenAt lost scratch (drop i limits) t₁ ≡ brokenAt lost scratch limits t → t₁ ≡ brokenAt lost scratch limits t
-unfolding brokenOff attemptsAt
-broken-end lost scratch limits t {i} h k e = let n : i ≡ length limits = omega arith in rw (n, drop-length limits) at e
+    (lost : Lost) (limits t s : List ℕ) {i : ℕ} {t₁ s₁ : List ℕ} → i ≤ length limits → length limits ≤ i
+    → brokenAt lost (length s) (drop i limits) t₁ ≡ brokenAt lost (length s) limits t
+    → scratchBrokenAt lost (length s) (drop i limits) t₁ s₁ ≡ scratchBrokenAt lost (length s) limits t s → BrokenOff lost limits t t₁ s s₁
+unfolding brokenOff scratchBroken attemptsAt
+broken-end lost limits t s {i} h k e f =
+    let n : i ≡ length limits = omega arith in record { table = rw (n, drop-length limits) at e; scratch = rw (n, drop-length limits) at f }
 
 -- whatever is known of the scratch
 attempts-same :
@@ -260,20 +242,34 @@ module _ (t₀ : List ℕ) (p : Script) (d : Demanded t₀ p) (room : tooFewLeft
 -- ---- THE CONTRACT
 
 pub rehearsed :
-    (p : Script) (s₁ s₂ : List ℕ) {t₀ t₁ t₂ t₃ t₄ s₃ s₄ : List ℕ} {r : Answer} → length s₁ ≡ p .scratch → length s₂ ≡ p .scratch → length s₃ ≡ p .scratch
-    → t₁ ≡ run t₀ (stepsTo (p .calls) (p .scratch) (callCount (p .calls)))
-    → t₂ ≡ hitBy (p .lost) (p .words) (tableOf (planOf t₁ (length s₁) (p .call)) (p .limit) t₁)
-    → t₃ ≡ brokenAt (p .lost) (length s₂) (p .limits) t₂
-    → RecoverMeets (recoverOf t₃ (p .lost) (length s₃)) unlimited t₃ t₄ s₃ s₄ r
-    → Rehearsed p t₀ t₄ r
-rehearsed p s₁ s₂ {t₀} {t₁} {t₂} {t₃} {t₄} {r = r} n₁ n₂ n₃ a b c o = record {
+    (p : Script) (s₁ s₂ : List ℕ) {t₀ t₁ t₂ t₃ t₄ s₀ s₃ s₄ : List ℕ} {r : Answer} → length s₀ ≡ p .scratch → length s₁ ≡ p .scratch → length s₂ ≡ p .scratch
+    → length s₃ ≡ p .scratch → RanCalls (p .calls) t₀ t₁ s₀ s₁ → Struck (p .call) (p .limit) (p .lost) (p .words) t₁ t₂ s₁ s₂
+    → BrokenOff (p .lost) (p .limits) t₂ t₃ s₂ s₃ → RecoverMeets (recoverOf t₃ (p .lost) (length s₃)) unlimited t₃ t₄ s₃ s₄ r
+    → Rehearsed p t₀ t₄ s₀ s₄ r
+rehearsed p s₁ s₂ {t₀} {t₁} {t₂} {t₃} {t₄} {s₀} {s₃} {s₄} {r} n₀ n₁ n₂ n₃ a b c o = record {
   table = table;
+  scratch = o .scratch ∙ rw (n₃, tried) (ap (scratchAfter (lastRecovery t₀ p)) third);
   answer = answer;
   demand = λ d room. rw (table, answer) (restores t₀ p d room);
 }
   where
+    ran : t₁ ≡ before t₀ p
+    ran = rw n₀ at (a .table)
+
+    hit : t₂ ≡ struck t₀ p
+    hit = rw (n₁, ran) at (b .table)
+
     tried : t₃ ≡ attempted t₀ p
-    tried = rw (c, b, a, n₁, n₂) refl
+    tried = rw (n₂, hit) at (c .table)
+
+    first : s₁ ≡ scratchRun t₀ (wholeCalls t₀ p) s₀
+    first = rw n₀ at (a .scratch)
+
+    second : s₂ ≡ scratchBy (p .call) (planAt (before t₀ p) (next t₀ p)) (scratchRun t₀ (wholeCalls t₀ p) s₀)
+    second = rw (n₁, ran) at (b .scratch) ∙ ap (scratchBy (p .call) (planAt (before t₀ p) (next t₀ p))) first
+
+    third : s₃ ≡ scratchBrokenAt (p .lost) (p .scratch) (p .limits) (struck t₀ p) (scratchBy (p .call) (planAt (before t₀ p) (next t₀ p)) (scratchRun t₀ (wholeCalls t₀ p) s₀))
+    third = rw (n₂, hit) at (c .scratch) ∙ ap (scratchBrokenAt (p .lost) (p .scratch) (p .limits) (struck t₀ p)) second
 
     table : t₄ ≡ recovered t₀ p
     table = o .meets .table ∙ rw (n₃, tried) (whole-table (attempted t₀ p) (p .lost) (p .scratch) unlimited (omega arith))

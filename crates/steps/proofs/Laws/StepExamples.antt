@@ -9,7 +9,8 @@ use Rattle.restore.specs.declared.call.Call.the-variants.{Format, Read, Write, 
 use Rattle.steps.specs.declared.decode.Step.the-variants.{Asked, Malformed}
 use Rattle.homes.specs.Places.{placeBy}
 use Rattle.survivors.specs.Survivors.{lostBy}
-use Rattle.steps.specs.Steps.{formatStep, readStep, writeStep, evictStep, bareStep, recoverStep, stepBy, stepOf}
+use Rattle.restore.specs.Operations.{callBy}
+use Rattle.steps.specs.Steps.{unusedZero, formatStep, callStep, stepOf}
 use Rattle.steps.specs.Records.{recordOf}
 
 -- the first word of operation o, node n, item b, place p
@@ -46,7 +47,7 @@ pub listing :
     ∷ Read 1 0
     ∷ Read 2 0
     ∷ [])
-unfolding placeBy lostBy formatStep readStep writeStep evictStep bareStep recoverStep stepBy
+unfolding placeBy lostBy callBy unusedZero formatStep callStep stepOf
 listing = refl
 
 -- the largest fields, the kept place, a Recover of none, abandon, a format out of range
@@ -72,7 +73,7 @@ pub others :
     ∷ Format 31 511 1023
     ∷ Format 0 0 0
     ∷ [])
-unfolding placeBy lostBy formatStep readStep writeStep evictStep bareStep recoverStep stepBy
+unfolding placeBy lostBy callBy unusedZero formatStep callStep stepOf
 others = refl
 
 -- "A record that breaks this, any other operation": a format with a bit after F, or a second word; a read with a place, a bit after it, or a
@@ -101,12 +102,12 @@ pub malformed :
     ∷ stepOf (word 15 0 0 0) 0
     ∷ [])
     ≡ replicate 20 Malformed
-unfolding placeBy lostBy formatStep readStep writeStep evictStep bareStep recoverStep stepBy
+unfolding placeBy lostBy callBy unusedZero formatStep callStep stepOf
 malformed = refl
 
 -- "write node 2 item 0 value 7" as bytes, with a byte of the next record, and cut off
 pub bytes-of-a-write : recordOf (34 ∷ replicate 14 0 ++ (7 ∷ 255 ∷ [])) ≡ Asked (Write 2 0 7)
-unfolding placeBy lostBy formatStep readStep writeStep evictStep bareStep recoverStep stepBy recordOf
+unfolding placeBy lostBy callBy unusedZero formatStep callStep stepOf recordOf
 bytes-of-a-write = refl
 
 -- "a cut-off last record"

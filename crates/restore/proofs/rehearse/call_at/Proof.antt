@@ -6,9 +6,10 @@ use Rattle.restore.proofs.rehearse.call_at.Tie as tie
 
 returns : tie.Need-returns
 returns c =
-    let w₃ = c .before .before .before in
+    let b = c .before in
+    let w₃ = b .before .before .before in
     call-here _ _ (w₃ .before .before .before .if1 .taken) (w₃ .before .before .word .ensures) (w₃ .before .word2 .ensures) (w₃ .word3 .ensures)
-    (c .before .before .word4 .ensures) (c .before .word5 .ensures) (c .call-by .ensures)
+    (b .before .before .word4 .ensures) (b .before .word5 .ensures) (b .call-by .ensures) (c .call-or-check .ensures)
 
 pub call-at-spec : {M : Type 1} → statement M
 call-at-spec =
@@ -23,6 +24,7 @@ call-at-spec =
     (λ c. search needs)
     (λ c κs. search needs)
     (λ c. search needs)
+    (λ c κs. search needs)
     (λ c κs. search needs)
     (λ c κs. search needs)
     returns

@@ -12,5 +12,7 @@ format-step-spec =
     (λ c κs. search needs)
     (λ c κs. search needs)
     (λ c κs. search needs)
+    (λ c κs. search needs)
+    (λ c κs. search needs)
     (λ c. search format-kept)
     (λ c. search format-broken))
