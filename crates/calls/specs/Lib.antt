@@ -1,4 +1,4 @@
--- Read and Write as plans: definitions, the ways of their code, and what every cut of them keeps.
+-- Read and Write as plans.
 pub mod Transitions
 pub mod Read
 pub mod Write

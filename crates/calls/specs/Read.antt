@@ -12,8 +12,7 @@ use Rattle.table.specs.Stores.{Store, Change, entryStore, stateTo, valueTo}
 use Rattle.table.specs.View.{Entry, View, current, kept, live}
 use Rattle.table.specs.Answers.{Plan, carry}
 use Rattle.homes.specs.declared.admission.Admission.{Admission}
-use Rattle.homes.specs.Admission.{admissionOf, frameAdmission}
-use Rattle.homes.specs.Plans.{planBy}
+use Rattle.homes.specs.Admission.{admissionOf, frameAdmission, planBy}
 use Rattle.calls.specs.Transitions.{changeBy}
 
 -- "nothing if the node's current place is not Invalid": such a place is read where it is

@@ -9,12 +9,10 @@ use Rattle.table.specs.declared.changes.Event.the-variants.{OtherWrites}
 use Rattle.table.specs.Words.{currentOf, keptOf, modified}
 use Rattle.table.specs.Changes.{checkpointOf}
 use Rattle.table.specs.Stores.{Store, Change, entryStore, stateTo, valueTo}
-use Rattle.table.specs.View.{Entry, View, current}
-use Rattle.table.specs.Pass.{pass}
+use Rattle.table.specs.View.{Entry, View, current, pass}
 use Rattle.table.specs.Answers.{Plan, carry}
 use Rattle.homes.specs.declared.admission.Admission.{Admission}
-use Rattle.homes.specs.Admission.{admissionOf, frameAdmission}
-use Rattle.homes.specs.Plans.{planBy}
+use Rattle.homes.specs.Admission.{admissionOf, frameAdmission, planBy}
 use Rattle.calls.specs.Transitions.{keepCopy, changeBy}
 
 -- ---- the stores

@@ -1,17 +1,20 @@
 -- What Open, Create, Commit and Abandon have in common: the phase, the entries by node, then item.
 use Prim.Native.Nat.{ℕ, _*_, _/_, _%_}
-use mathlib.Core.Bool.{Bool, cond, _||_}
-use mathlib.Core.List.{List, []}
+use mathlib.Core.Bool.{Bool, cond, _||_, not}
+use mathlib.Core.List.{List, [], _∷_}
 use lib.Dec.{eqb}
 use Rattle.counting.specs.Counting.{first}
 use Rattle.table.specs.declared.geometry.Geometry.{Geometry}
 use Rattle.table.specs.declared.answers.Refusal.the-variants.{NoCheckpoint}
-use Rattle.table.specs.Words.{precommit1, precommit2, phaseOf}
-use Rattle.table.specs.Stores.{Store, Change}
-use Rattle.table.specs.View.{Entry, View, live}
-use Rattle.table.specs.Pass.{pass}
+use Rattle.table.specs.Words.{precommit1, precommit2, phaseOf, invalid}
+use Rattle.table.specs.Stores.{Store, Change, stateTo}
+use Rattle.table.specs.View.{Entry, View, live, current, kept, pass}
 use Rattle.homes.specs.declared.admission.Admission.{Admission}
 use Rattle.homes.specs.declared.admission.Admission.the-variants.{Admitted, Turned}
+use Rattle.table.specs.declared.changes.Event.the-variants.{Commit, Abandon}
+use Rattle.table.specs.Changes.{changeOf}
+use Rattle.checkpoints.specs.declared.checkpoint.Closing.{Closing}
+use Rattle.checkpoints.specs.declared.checkpoint.Closing.the-variants.{Committed, Abandoned}
 
 -- ---- the phase
 
@@ -43,3 +46,21 @@ entriesBefore g v change n =
 
 abbrev pub entriesTo : Geometry → View → (Entry → List Change) → List Store
 entriesTo g v change = entriesBefore g v change (g .nodes)
+
+-- ---- How an open checkpoint ends in an entry. Commit: "one state store where Precommit or Inv-CK stands". Abandon: "Precommit state words likewise".
+
+-- "where Precommit or Inv-CK stands"
+abbrev pub commits : Entry → Bool
+commits e = isPrecommit (current e) || not (eqb (kept e) invalid)
+
+-- "Commit and roll forward empty the kept place."
+unfoldable pub commitChange : Entry → List Change
+commitChange e = cond (commits e) (stateTo (changeOf (current e) Commit) invalid ∷ []) []
+
+-- the kept place stays
+unfoldable pub abandonChange : Entry → List Change
+abandonChange e = cond (isPrecommit (current e)) (stateTo (changeOf (current e) Abandon) (kept e) ∷ []) []
+
+unfoldable pub closeChange : Closing → Entry → List Change
+closeChange Committed e = commitChange e
+closeChange Abandoned e = abandonChange e

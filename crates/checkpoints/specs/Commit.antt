@@ -7,16 +7,14 @@ use Rattle.table.specs.declared.geometry.Geometry.{Geometry}
 use Rattle.table.specs.declared.answers.Refusal.the-variants.{NotCreated}
 use Rattle.table.specs.Words.{numberOf, markWord}
 use Rattle.table.specs.Stores.{Store}
-use Rattle.table.specs.View.{View}
-use Rattle.table.specs.Pass.{marksTo}
+use Rattle.table.specs.View.{View, marksTo}
 use Rattle.table.specs.Answers.{Plan, carry}
 use Rattle.homes.specs.declared.admission.Admission.{Admission}
 use Rattle.homes.specs.declared.admission.Admission.the-variants.{Admitted, Turned}
-use Rattle.checkpoints.specs.declared.checkpoint.Closing.the-variants.{Committed}
-use Rattle.homes.specs.Plans.{planBy}
+use Rattle.checkpoints.specs.declared.checkpoint.Closing.the-variants.{Committed, Abandoned}
+use Rattle.homes.specs.Admission.{planBy}
 use Rattle.entries.specs.Dirty.{noneDirty}
-use Rattle.checkpoints.specs.Checkpoint.{openAdmission, entriesTo}
-use Rattle.checkpoints.specs.Closing.{closeChange}
+use Rattle.checkpoints.specs.Checkpoint.{openAdmission, entriesTo, closeChange}
 
 -- ---- the stores
 
@@ -45,3 +43,19 @@ commitAdmission g v = createdAdmission g v (openAdmission g v)
 
 abbrev pub commitOf : List ℕ → Plan
 commitOf t = planBy commitAdmission (λ g v. carry g 0 (commitStores g v)) t
+
+-- ---- Abandon: "Precommit state words likewise, then marks to phase 0."
+
+-- ---- the stores
+
+-- "marks to phase 0", the number as it was
+abbrev pub runningMark : ℕ → ℕ
+runningMark w = markWord 0 (numberOf w)
+
+unfoldable pub abandonStores : Geometry → View → List Store
+abandonStores g v = entriesTo g v (closeChange Abandoned) ++ marksTo g v runningMark
+
+-- ---- the plan
+
+abbrev pub abandonOf : List ℕ → Plan
+abandonOf t = planBy openAdmission (λ g v. carry g 0 (abandonStores g v)) t

@@ -15,7 +15,7 @@ use Rattle.homes.specs.declared.places.Place.the-variants.{Current}
 use Rattle.entries.specs.Dirty.{ownerOf, dirtyItem, noneDirty}
 use Rattle.checkpoints.specs.Checkpoint.{openAdmission}
 use Rattle.homes.specs.Home.{homeOf, noHome, homeStores}
-use Rattle.homes.specs.Plans.{planBy}
+use Rattle.homes.specs.Admission.{planBy}
 
 -- ---- the partner
 

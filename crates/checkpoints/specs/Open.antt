@@ -7,12 +7,11 @@ use Rattle.table.specs.declared.geometry.Geometry.{Geometry}
 use Rattle.table.specs.declared.answers.Refusal.the-variants.{CheckpointOpen, LastNumber}
 use Rattle.table.specs.Words.{numberOf, markWord}
 use Rattle.table.specs.Stores.{Store}
-use Rattle.table.specs.View.{View}
-use Rattle.table.specs.Pass.{marksTo}
+use Rattle.table.specs.View.{View, marksTo}
 use Rattle.table.specs.Answers.{Plan, carry}
 use Rattle.homes.specs.declared.admission.Admission.{Admission}
 use Rattle.homes.specs.declared.admission.Admission.the-variants.{Admitted, Turned}
-use Rattle.homes.specs.Plans.{planBy}
+use Rattle.homes.specs.Admission.{planBy}
 use Rattle.checkpoints.specs.Checkpoint.{commonMark, isOpen}
 
 -- ---- the stores

@@ -2,7 +2,7 @@
 ghost use Rattle.table.specs.Stores.{Stored};
 ghost use Rattle.table.specs.View.{view};
 ghost use Rattle.table.specs.Answers.{Meets};
-ghost use Rattle.checkpoints.specs.Abandon.{abandonStores, abandonOf};
+ghost use Rattle.checkpoints.specs.Commit.{abandonStores, abandonOf};
 ghost use Rattle.checkpoints.specs.code.ClosingCode.{Agreed};
 use crate::checkpoint;
 use crate::checkpoint::Closing;

@@ -9,8 +9,7 @@ use Rattle.table.specs.declared.geometry.Geometry.{Geometry}
 use Rattle.table.specs.Words.{stateForm, markForm, phaseOf, numberOf}
 use Rattle.table.specs.View.{View, live}
 use Rattle.entries.specs.Frames.{framesFit}
-use Rattle.entries.specs.Tally.{countsOf}
-use Rattle.entries.specs.Items.{itemTest}
+use Rattle.entries.specs.Tally.{countsOf, itemTest}
 
 -- ---- marks
 

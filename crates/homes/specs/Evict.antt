@@ -13,10 +13,9 @@ use Rattle.homes.specs.declared.admission.Admission.{Admission}
 use Rattle.homes.specs.declared.admission.Admission.the-variants.{Admitted, Turned}
 use Rattle.homes.specs.declared.places.Place.{Place}
 use Rattle.homes.specs.declared.places.Place.the-variants.{Current, Kept}
-use Rattle.homes.specs.Admission.{admissionOf}
+use Rattle.homes.specs.Admission.{admissionOf, planBy}
 use Rattle.homes.specs.Places.{codeIn, sharedIn, valueIn}
 use Rattle.homes.specs.Home.{homeOf, noHome, homeStores}
-use Rattle.homes.specs.Plans.{planBy}
 
 -- ---- the stores
 

@@ -1,6 +1,5 @@
--- Where a copy may go, and what every cut of a call keeps: admission, the home search, Evict as a plan, the relation to a plain memory.
+-- What calls ask of a node and an item, where a copy may go, and Evict as a plan.
 pub mod Admission
-pub mod Plans
 pub mod Places
 pub mod Home
 pub mod Holders

@@ -12,7 +12,7 @@ use Rattle.table.specs.declared.answers.Refusal.the-variants.{EmptyOrShort, NoG
 use Rattle.table.specs.Words.{invalid, sharedCK1, sharedCK2, markWord}
 use Rattle.table.specs.Geometry.{geometryOf, wordsOf}
 use Rattle.table.specs.Stores.{Change, stateTo, valueTo, keptTo, Store, sizeStore, markStore, runs}
-use Rattle.table.specs.Pass.{pass}
+use Rattle.table.specs.View.{pass}
 use Rattle.table.specs.Answers.{Plan, refuse, carry}
 
 -- ---- the stores

@@ -1,8 +1,7 @@
 // The calls of running programs: Read, Write, Evict.
 ghost use Rattle.calls.specs.Read.{readOf};
 ghost use Rattle.calls.specs.Write.{writeOf};
-ghost use Rattle.linkspan.specs.Report.{planned, Reports};
-ghost use Rattle.linkspan.specs.Arguments.{evictAsked};
+ghost use Rattle.linkspan.specs.Report.{planned, Reports, evictAsked};
 use crate::report;
 
 // Reads an item at a node: the item's value.

@@ -1,8 +1,7 @@
 // The calls of checkpoints: Open, Create, Commit, Abandon.
 ghost use Rattle.checkpoints.specs.Open.{openOf};
 ghost use Rattle.checkpoints.specs.Create.{createOf};
-ghost use Rattle.checkpoints.specs.Commit.{commitOf};
-ghost use Rattle.checkpoints.specs.Abandon.{abandonOf};
+ghost use Rattle.checkpoints.specs.Commit.{commitOf, abandonOf};
 ghost use Rattle.linkspan.specs.Report.{planned, Reports};
 use crate::report;
 

@@ -1,7 +1,6 @@
 // Recover.
 ghost use lib.ListN.{length};
-ghost use Rattle.linkspan.specs.Arguments.{recoverAsked};
-ghost use Rattle.linkspan.specs.Report.{RecoverReports};
+ghost use Rattle.linkspan.specs.Report.{recoverAsked, RecoverReports};
 use crate::report;
 
 // Brings the survivors back to the last recovery point, or on to the new one. `none` is 1 where no node was lost, then `lost` is not used, and 0 where

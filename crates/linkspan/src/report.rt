@@ -1,6 +1,7 @@
 // How an answer is handed out: its number is the result, value and count of stores go where the caller says.
 ghost use Rattle.table.specs.Answers.{numbersOf};
-ghost use Rattle.linkspan.specs.Report.{malformedNumbers, HandedOut};
+ghost use Rattle.table.specs.Answers.{malformedNumbers};
+ghost use Rattle.linkspan.specs.Report.{HandedOut};
 use table::answers;
 use table::answers::Answer;
 
@@ -20,5 +21,5 @@ pub(crate) fn malformed(value: &mut u64, stores: &mut u64) -> u64
 {
     *value = 0;
     *stores = 0;
-    18
+    answers::MALFORMED
 }

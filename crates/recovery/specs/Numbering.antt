@@ -1,18 +1,19 @@
 -- "Next, items ascending, then node, one state store for each change: each number's lowest holder stays; if one number is absent, the second lowest
 -- holder of the other, where there is one, takes it; further copies go Invalid."
-use Prim.Native.Nat.{ℕ, _-_, _*_, _/_, _%_}
-use mathlib.Core.Bool.{not, cond, _&&_}
-use mathlib.Core.List.{List, []}
+use Prim.Native.Nat.{ℕ, _-_, _*_, _/_, _%_, zero, suc}
+use mathlib.Core.Bool.{not, cond, _&&_, Bool}
+use mathlib.Core.List.{List, [], _∷_, _++_, map}
 use lib.Dec.{eqb}
-use Rattle.counting.specs.Counting.{count}
+use Rattle.counting.specs.Counting.{count, first}
 use Rattle.table.specs.declared.geometry.Geometry.{Geometry}
 use Rattle.table.specs.Words.{invalid, sharedCK}
 use Rattle.table.specs.Changes.{checkpointOf}
-use Rattle.table.specs.Stores.{Store, Change}
-use Rattle.table.specs.View.{View, live, current}
-use Rattle.table.specs.Pass.{pass}
-use Rattle.entries.specs.Tally.{has}
-use Rattle.recovery.specs.Rolling.{settled}
+use Rattle.table.specs.Stores.{Store, Change, entryStore, valueTo, stateTo}
+use Rattle.table.specs.View.{View, live, current, Entry, updates, pass}
+use Rattle.entries.specs.Tally.{has, copy}
+use Rattle.recovery.specs.Sides.{settled}
+use Rattle.entries.specs.Frames.{frameFree}
+use Rattle.homes.specs.Home.{nodeAfter}
 
 -- how many live nodes below n hold item b as the Shared-CK of this number
 unfoldable pub holders : View → ℕ → ℕ → ℕ → ℕ
@@ -36,3 +37,46 @@ numberChange g w n b =
 unfoldable pub numberStores : Geometry → View → List Store
 numberStores g w =
     pass (λ k. k % g .nodes) (λ k. k / g .nodes) (λ k. numberChange g w (k % g .nodes) (k / g .nodes)) (g .items * g .nodes)
+
+-- ---- "Then, items ascending, a single copy gets its partner, which takes the absent number: from its node, the first live node after it with current
+-- Invalid and used < F (value, state)."
+
+-- item b has one copy, and its holder
+unfoldable pub single : Geometry → View → ℕ → Bool
+single g w b = eqb (count (copy w b) (g .nodes)) 1
+
+unfoldable pub holderOf : Geometry → View → ℕ → ℕ
+holderOf g w b = first (copy w b) (g .nodes)
+
+-- a node that can take the partner of item b's copy
+unfoldable pub takes : Geometry → View → ℕ → ℕ → Bool
+takes g w b n = live w n && (eqb (current (w .entry n b)) invalid && frameFree g w n b)
+
+-- the test of the node i + 1 steps after n
+unfoldable pub takesAfter : Geometry → View → ℕ → ℕ → ℕ → Bool
+takesAfter g w b n i = takes g w b (nodeAfter g n i)
+
+-- "from its node, the first live node after it" that can; the node itself if none can
+unfoldable pub partnerOf : Geometry → View → ℕ → ℕ → ℕ
+partnerOf g w b n = nodeAfter g n (first (takesAfter g w b n) (g .nodes - 1))
+
+-- "takes the absent number .. (value, state)": the partner of the copy in entry e
+unfoldable pub partnerChanges : Entry → List Change
+partnerChanges e = valueTo (e .value) ∷ stateTo (sharedCK (3 - checkpointOf (current e))) invalid ∷ []
+
+-- the partner of node n's copy of item b
+unfoldable pub partnerFrom : Geometry → View → ℕ → ℕ → List Store
+partnerFrom g w b n =
+    cond (eqb (partnerOf g w b n) n) [] (map (entryStore (partnerOf g w b n) b) (partnerChanges (w .entry n b)))
+
+unfoldable pub partnerStores : Geometry → ℕ → View → List Store
+partnerStores g b w = cond (single g w b) (partnerFrom g w b (holderOf g w b)) []
+
+-- f 0, f 1, .. and f (n − 1), each on the view that the ones before it leave
+unfoldable pub staged : (ℕ → View → List Store) → ℕ → View → List Store
+staged f zero w = []
+staged f (suc n) w = staged f n w ++ f n (updates (staged f n w) w)
+
+-- "items ascending"
+unfoldable pub partnersStores : Geometry → View → List Store
+partnersStores g w = staged (partnerStores g) (g .items) w

@@ -15,14 +15,11 @@ use Rattle.entries.specs.Sound.{marksForm, nodesSound}
 use Rattle.entries.specs.Check.{sizesOf}
 use Rattle.homes.specs.declared.admission.Admission.{Admission}
 use Rattle.homes.specs.declared.admission.Admission.the-variants.{Admitted, Turned}
-use Rattle.homes.specs.Plans.{planAdmitted}
+use Rattle.homes.specs.Admission.{planAdmitted}
 use Rattle.survivors.specs.declared.lost.Lost.{Lost}
-use Rattle.survivors.specs.Survivors.{lostStores, survivors, lostOutside, tooFew}
-use Rattle.recovery.specs.Sides.{itemsFit}
-use Rattle.recovery.specs.Rolling.{rollStores}
-use Rattle.recovery.specs.Numbering.{numberStores}
-use Rattle.recovery.specs.Partners.{partnersStores}
-use Rattle.survivors.specs.ClosingMarks.{closingStores}
+use Rattle.survivors.specs.Survivors.{lostStores, survivors, lostOutside, tooFew, closingStores}
+use Rattle.recovery.specs.Sides.{itemsFit, rollStores}
+use Rattle.recovery.specs.Numbering.{numberStores, partnersStores}
 use mathlib.Core.Path.{_≡_}
 use Rattle.table.specs.declared.answers.Answer.{Answer}
 

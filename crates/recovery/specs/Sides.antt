@@ -7,9 +7,14 @@ use Rattle.counting.specs.Values.{Values, valuesOf}
 use Rattle.table.specs.declared.geometry.Geometry.{Geometry}
 use Rattle.table.specs.declared.changes.Event.{Event}
 use Rattle.table.specs.declared.changes.Event.the-variants.{RollBack, RollForward}
-use Rattle.table.specs.View.{Entry, View, live}
+use Rattle.table.specs.View.{Entry, View, live, current, kept}
 use Rattle.table.specs.Copies.{Copy, backCopy, copyNumber, copyValue, forwardCopy}
 use Rattle.survivors.specs.Direction.{forwardIn}
+use mathlib.Core.List.{List, [], _∷_, _++_}
+use Rattle.table.specs.Words.{invalid, sharedCK}
+use Rattle.table.specs.Changes.{changeOf}
+use Rattle.table.specs.Stores.{Store, Change, stateTo, valueTo}
+use Rattle.checkpoints.specs.Checkpoint.{entriesTo}
 
 -- the column of the state table
 abbrev pub sideEvent : Bool → Event
@@ -34,3 +39,24 @@ itemFits g forward w b = copiesOn g forward w b .seen && copiesOn g forward w b 
 
 unfoldable pub itemsFit : Geometry → View → Bool
 itemsFit g w = every (itemFits g (forwardIn g w) w) (g .items)
+
+-- ---- "Roll forward .., else roll back, by node, then item. Rolling back an Inv-CK: state with current Invalid if it was not; current value; state. Other
+-- entries: one state store where it changes."
+
+-- "Rolling back an Inv-CK: state with current Invalid if it was not; current value; state."
+unfoldable pub bringBack : Entry → List Change
+bringBack e =
+    cond (eqb (current e) invalid) [] (stateTo invalid (kept e) ∷ [])
+    ++ (valueTo (e .keptValue) ∷ stateTo (sharedCK (kept e)) invalid ∷ [])
+
+-- "one state store where it changes": to this code, with nothing kept
+unfoldable pub settled : ℕ → Entry → List Change
+settled next e = cond (eqb next (current e) && eqb (kept e) invalid) [] (stateTo next invalid ∷ [])
+
+unfoldable pub rollChange : Bool → Entry → List Change
+rollChange forward e =
+    cond (not forward && not (eqb (kept e) invalid)) (bringBack e) (settled (changeOf (current e) (sideEvent forward)) e)
+
+-- "by node, then item"
+unfoldable pub rollStores : Geometry → View → List Store
+rollStores g w = entriesTo g w (rollChange (forwardIn g w))

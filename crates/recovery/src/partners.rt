@@ -9,7 +9,7 @@ ghost use Rattle.table.specs.Words.{currentOf, sharedCK};
 ghost use Rattle.table.specs.Changes.{checkpointOf};
 ghost use Rattle.homes.specs.Home.{nodeAfter};
 ghost use Rattle.survivors.specs.Survivors.{survivors};
-ghost use Rattle.recovery.specs.Partners.{partnerChanges, partnerFrom, partnerStores, partnersStores};
+ghost use Rattle.recovery.specs.Numbering.{partnerChanges, partnerFrom, partnerStores, partnersStores};
 ghost use Rattle.recovery.specs.code.Rows.{HasEntry};
 ghost use Rattle.recovery.specs.code.PartnersCounts.{usedWith};
 ghost use Rattle.recovery.specs.code.PartnersCode.{takesBy, Found, UsedBy, Filled, FilledFrom, Ready, Turned};

@@ -14,11 +14,10 @@ use Rattle.calls.specs.Read.{readOf}
 use Rattle.calls.specs.Write.{writeOf}
 use Rattle.checkpoints.specs.Open.{openOf}
 use Rattle.checkpoints.specs.Create.{createOf}
-use Rattle.checkpoints.specs.Commit.{commitOf}
-use Rattle.checkpoints.specs.Abandon.{abandonOf}
+use Rattle.checkpoints.specs.Commit.{commitOf, abandonOf}
 use Rattle.recovery.specs.Recover.{recoverOf, RecoverMeets}
-use Rattle.restore.specs.CallCode.{CarriedOut}
-use Rattle.restore.specs.Rehearsed.{Rehearsed}
+use Rattle.restore.specs.Call.{CarriedOut}
+use Rattle.restore.specs.Rehearsal.{Rehearsed}
 use Rattle.layout.proofs.format.format as format
 use Rattle.layout.proofs.format.format.Kinds as format-kinds
 use Rattle.layout.proofs.format.format.Reads as format-reads

@@ -2,7 +2,7 @@
 use Prim.Native.Nat.{ℕ}
 use mathlib.Core.Bool.{Bool, true, false}
 use mathlib.Core.List.{List}
-use Rattle.table.specs.Answers.{Plan, refuse, nothingLeft, carry}
+use Rattle.table.specs.Answers.{Plan, refuse, nothingLeft, carry, Meets}
 use Rattle.layout.specs.Format.{formatOf}
 use Rattle.layout.specs.Stretch.{checkOf, stretchOf}
 use Rattle.calls.specs.Read.{readOf}
@@ -10,11 +10,13 @@ use Rattle.calls.specs.Write.{writeOf}
 use Rattle.homes.specs.Evict.{evictOf}
 use Rattle.checkpoints.specs.Open.{openOf}
 use Rattle.checkpoints.specs.Create.{createOf}
-use Rattle.checkpoints.specs.Commit.{commitOf}
-use Rattle.checkpoints.specs.Abandon.{abandonOf}
+use Rattle.checkpoints.specs.Commit.{commitOf, abandonOf}
 use Rattle.restore.specs.declared.call.Call.{Call}
 use Rattle.restore.specs.declared.call.Call.the-variants.{Format, Check, Stretch, Read, Write, Evict, Open, Create, Commit, Abandon, Recover}
-use Rattle.recovery.specs.Recover.{recoverOf}
+use Rattle.recovery.specs.Recover.{recoverOf, scratchAfter}
+use mathlib.Core.Path.{_≡_}
+use lib.ListN.{length}
+use Rattle.table.specs.declared.answers.Answer.{Answer}
 
 -- only Recover looks at the scratch
 unfoldable pub planOf : List ℕ → ℕ → Call → Plan
@@ -40,3 +42,24 @@ abbrev pub accepted : Plan → Bool
 accepted (refuse r) = false
 accepted nothingLeft = false
 accepted (carry g x ss) = true
+
+-- ---- THE CONTRACT of the one function that carries any call out
+
+-- the scratch after a call with this plan: only Recover's changes
+abbrev pub scratchBy : Call → Plan → List ℕ → List ℕ
+scratchBy (Format n m f) plan s = s
+scratchBy Check plan s = s
+scratchBy (Stretch n) plan s = s
+scratchBy (Read n b) plan s = s
+scratchBy (Write n b x) plan s = s
+scratchBy (Evict n b place) plan s = s
+scratchBy Open plan s = s
+scratchBy Create plan s = s
+scratchBy Commit plan s = s
+scratchBy Abandon plan s = s
+scratchBy (Recover lost) plan s = scratchAfter plan s
+
+-- THE CONTRACT: table and answer by the call's plan at the limit, and the scratch
+pub record CarriedOut (call : Call) (limit : ℕ) (t t′ s s′ : List ℕ) (r : Answer) : Type 0 where
+  pub meets : Meets (planOf t (length s) call) limit t t′ r
+  pub scratch : s′ ≡ scratchBy call (planOf t (length s) call) s

@@ -13,9 +13,5 @@ pub mod Demand3
 -- ---- what no call reads
 pub mod Unread
 pub mod Rehearsal
-pub mod Rehearsed
--- ---- the ways of the code
-pub mod CallCode
--- ---- the rehearsal, and the examples
 pub mod Examples
 pub mod code

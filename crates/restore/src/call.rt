@@ -1,5 +1,5 @@
 // A call as a value, with any arguments, and the one function that carries any of them out.
-ghost use Rattle.restore.specs.CallCode.{CarriedOut};
+ghost use Rattle.restore.specs.Call.{CarriedOut};
 use homes::places::Place;
 use survivors::lost::Lost;
 use table::answers::Answer;

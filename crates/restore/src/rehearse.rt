@@ -2,8 +2,7 @@
 ghost use mathlib.Core.Path.{_≡_};
 ghost use Prim.Native.Nat.{_<_, min};
 ghost use lib.ListN.{length};
-ghost use Rattle.restore.specs.Rehearsal.{callOrCheck, callAt, nodeWordAt, nodeWords, putTo, hitNode, hitBy};
-ghost use Rattle.restore.specs.Rehearsed.{Rehearsed};
+ghost use Rattle.restore.specs.Rehearsal.{callOrCheck, callAt, nodeWordAt, nodeWords, putTo, hitNode, hitBy, Rehearsed};
 ghost use Rattle.restore.specs.code.Rehearsing.{RanCalls, Struck, BrokenOff};
 use crate::call::Call;
 use crate::call::WHOLE;

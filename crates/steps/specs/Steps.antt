@@ -1,13 +1,15 @@
 -- What the two words of a record ask for.
-use Prim.Native.Nat.{ℕ, _/_, _%_, _^_}
+use Prim.Native.Nat.{ℕ, _/_, _%_, _^_, _+_, _*_}
 use mathlib.Core.Bool.{Bool, cond, _&&_, _||_}
-use lib.Dec.{eqb}
+use lib.Dec.{eqb, ltb}
 use Rattle.table.specs.Words.{sizeForm, nodesOf, itemsOf, framesOf}
 use Rattle.restore.specs.declared.operations.Operation.{Operation}
 use Rattle.restore.specs.declared.operations.Operation.the-variants.{Known, Unknown}
 use Rattle.restore.specs.Operations.{callBy}
 use Rattle.steps.specs.declared.decode.Step.{Step}
 use Rattle.steps.specs.declared.decode.Step.the-variants.{Asked, Malformed}
+use mathlib.Core.List.{List}
+use lib.ListN.{length, getD}
 
 -- "First word: operation 4 bits, node 4, item 8, place 1"; "Fields are packed most significant bit first"
 abbrev pub operationOf : ℕ → ℕ
@@ -57,3 +59,21 @@ callStep first second =
 
 unfoldable pub stepOf : ℕ → ℕ → Step
 stepOf first second = cond (eqb (operationOf first) 0) (formatStep first second) (callStep first second)
+
+-- ---- what the bytes of a record ask for
+
+-- "big-endian": the word of the eight bytes from a place
+abbrev pub wordAt : List ℕ → ℕ → ℕ
+wordAt b at =
+    getD b at 0 * 2 ^ 56
+    + getD b (at + 1) 0 * 2 ^ 48
+    + getD b (at + 2) 0 * 2 ^ 40
+    + getD b (at + 3) 0 * 2 ^ 32
+    + getD b (at + 4) 0 * 2 ^ 24
+    + getD b (at + 5) 0 * 2 ^ 16
+    + getD b (at + 6) 0 * 2 ^ 8
+    + getD b (at + 7) 0
+
+-- "16 bytes a record": the step of the first 16 bytes; of fewer, ".. or a cut-off last record gives answer 18"
+unfoldable pub recordOf : List ℕ → Step
+recordOf bytes = cond (ltb (length bytes) 16) Malformed (stepOf (wordAt bytes 0) (wordAt bytes 8))

@@ -2,7 +2,7 @@
 ghost use mathlib.Core.Path.{_≡_};
 ghost use Prim.Native.Nat.{_+_, _<_, _≤_};
 ghost use lib.ListN.{length, drop};
-ghost use Rattle.steps.specs.Records.{wordAt, recordOf};
+ghost use Rattle.steps.specs.Steps.{wordAt, recordOf};
 use crate::decode::Step;
 
 // The bytes of a record.

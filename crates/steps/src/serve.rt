@@ -1,7 +1,7 @@
 // A step carried out on quay's table.
 ghost use mathlib.Core.Path.{_≡_};
 ghost use Rattle.restore.specs.Run.{isFormat};
-ghost use Rattle.steps.specs.Serving.{counted as Serving·counted, StepServed};
+ghost use Rattle.steps.specs.Run.{counted as Serving·counted, StepServed};
 ghost use Rattle.steps.specs.declared.decode.Step.the-variants.{Asked};
 ghost use Rattle.steps.specs.code.ServingCode.{isDone, CarriedLent};
 use crate::decode::Step;
@@ -106,7 +106,7 @@ pub fn serve(table: &mut [u64], scratch: &mut [u64], progress: Progress, step: S
         Step::Asked(asked) => serve_call(table, scratch, progress, asked),
         Step::Malformed => Served {
             numbers: Numbers {
-                answer: 18,
+                answer: answers::MALFORMED,
                 value: 0,
                 stores: 0,
             },

@@ -2,4 +2,3 @@
 
 pub mod Survivors
 pub mod Direction
-pub mod ClosingMarks

@@ -1,14 +1,14 @@
 -- "Recover, with a lost node or none: the lost mark to 0, stored even if it is 0 already, so that a dead node may be named. Survivors are the live
 -- nodes but the lost one."
-use Prim.Native.Nat.{ℕ, _-_, _*_}
+use Prim.Native.Nat.{ℕ, _-_, _*_, zero, suc, max}
 use mathlib.Core.Bool.{Bool, false, _&&_, _||_, cond}
 use mathlib.Core.List.{List, [], _∷_}
 use lib.Dec.{eqb, leb, ltb}
 use Rattle.counting.specs.Counting.{count, exists}
 use Rattle.table.specs.declared.geometry.Geometry.{Geometry}
-use Rattle.table.specs.Words.{numberOf}
+use Rattle.table.specs.Words.{numberOf, markWord}
 use Rattle.table.specs.Stores.{Store, markStore}
-use Rattle.table.specs.View.{View, live, updates}
+use Rattle.table.specs.View.{View, live, updates, marksTo}
 use Rattle.survivors.specs.declared.lost.Lost.{Lost}
 use Rattle.survivors.specs.declared.lost.Lost.the-variants.{Nobody, Node}
 
@@ -48,3 +48,16 @@ tooFew g w = tooFewWith g (survivorCount g w)
 -- "in Recover 1 means none lost". Who takes no number but 0 and 1 says so before.
 unfoldable pub lostBy : ℕ → ℕ → Lost
 lostBy none n = cond (eqb none 0) (Node n) Nobody
+
+-- ---- "Last, live marks ascending: phase 0 and the survivors' largest number."
+
+unfoldable pub largest : (ℕ → ℕ) → ℕ → ℕ
+largest f zero = 0
+largest f (suc n) = max (largest f n) (f n)
+
+-- a dead node's mark is 0, and so is its number
+unfoldable pub largestNumber : Geometry → View → ℕ
+largestNumber g w = largest (λ n. numberOf (w .mark n)) (g .nodes)
+
+unfoldable pub closingStores : Geometry → View → List Store
+closingStores g w = marksTo g w (λ x. markWord 0 (largestNumber g w))

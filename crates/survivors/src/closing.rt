@@ -2,10 +2,8 @@
 ghost use mathlib.Core.Path.{_≡_};
 ghost use Prim.Native.Nat.{max};
 ghost use Rattle.table.specs.Stores.{Stored};
-ghost use Rattle.table.specs.View.{view};
-ghost use Rattle.table.specs.Pass.{markTo, marksTo};
-ghost use Rattle.survivors.specs.Survivors.{survivors};
-ghost use Rattle.survivors.specs.ClosingMarks.{largestNumber, closingStores};
+ghost use Rattle.table.specs.View.{view, markTo, marksTo};
+ghost use Rattle.survivors.specs.Survivors.{survivors, largestNumber, closingStores};
 use crate::lost::Lost;
 use crate::nodes;
 use table::geometry::Geometry;

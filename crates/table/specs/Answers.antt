@@ -36,6 +36,10 @@ numbersOf (Done value stores) = record { answer = 0; value = value; stores = sto
 numbersOf NothingLeft = record { answer = 17; value = 0; stores = 0 }
 numbersOf (Refused x) = record { answer = refusalNumber x; value = 0; stores = 0 }
 
+-- "gives answer 18": what was handed in names no call
+abbrev pub malformedNumbers : Numbers
+malformedNumbers = record { answer = 18; value = 0; stores = 0 }
+
 -- turned down; document 01's 17, "no stores, if none is left"; or carried out: the geometry of the table, the value, the stores
 pub data Plan : Type 0 where
   refuse : Refusal → Plan

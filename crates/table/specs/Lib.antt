@@ -4,7 +4,6 @@ pub mod Geometry
 pub mod Changes
 pub mod Stores
 pub mod View
-pub mod Pass
 pub mod Copies
 pub mod Answers
 pub mod code

@@ -1,13 +1,13 @@
 -- What a table shows: a mark for each node, an entry for each node and item. Nodes and items that are not there show zeros.
 use Prim.Native.Nat.{ℕ, _+_}
 use mathlib.Core.Bool.{Bool, not, cond, _&&_}
-use mathlib.Core.List.{List, [], _∷_}
+use mathlib.Core.List.{List, [], _∷_, map}
 use lib.Dec.{eqb, ltb}
 use lib.ListN.{getD}
 use Rattle.table.specs.declared.geometry.Geometry.{Geometry}
 use Rattle.table.specs.Words.{currentOf, keptOf, stateWord}
 use Rattle.table.specs.Geometry.{markAt, entryAt}
-use Rattle.table.specs.Stores.{Change, stateTo, valueTo, keptTo, Store, sizeStore, markStore, entryStore}
+use Rattle.table.specs.Stores.{Change, stateTo, valueTo, keptTo, Store, sizeStore, markStore, entryStore, runs}
 
 pub record Entry : Type 0 where
   pub state : ℕ
@@ -69,3 +69,19 @@ update (entryStore n b c) v = record { mark = v .mark; entry = put₂ (v .entry)
 abbrev pub updates : List Store → View → View
 updates [] v = v
 updates (s ∷ ss) v = updates ss (update s v)
+
+-- ---- A pass over entries in any order that meets none twice: place k is the entry of node `nd k` and item `it k`, changed by a list of its own.
+-- A column (one item): nd k = k, it k = b. By node, then item: nd k = k / M, it k = k % M. By item, then node: nd k = k % N, it k = k / N.
+
+abbrev pub pass : (ℕ → ℕ) → (ℕ → ℕ) → (ℕ → List Change) → ℕ → List Store
+pass nd it changes = runs (λ k. map (entryStore (nd k) (it k)) (changes k))
+
+-- ---- live marks, ascending
+
+-- a live node's mark w becomes f w
+unfoldable pub markTo : View → (ℕ → ℕ) → ℕ → List Store
+markTo v f n = cond (live v n) (markStore n (f (v .mark n)) ∷ []) []
+
+-- "each live mark, .. ascending"
+unfoldable pub marksTo : Geometry → View → (ℕ → ℕ) → List Store
+marksTo g v f = runs (markTo v f) (g .nodes)

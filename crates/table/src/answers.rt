@@ -36,6 +36,9 @@ pub struct Numbers {
     pub stores: u64,
 }
 
+// The answer where what was handed in names no call.
+pub const MALFORMED: u64 = 18;
+
 // The number of a refusal.
 fn refusal_number(refusal: Refusal) -> u64
     ensures { λ r. ⌜ r ≡ refusalNumber refusal ⌝ }

@@ -13,8 +13,7 @@ use Rattle.table.specs.Words.{currentOf, modified}
 use Rattle.table.specs.Changes.{checkpointOf}
 use Rattle.table.specs.Stores.{Stored, StoredIn, entryStore, stateTo, valueTo}
 use Rattle.table.proofs.Laws.Stores.{stored-then, stored-three, stored-as, loop-turns}
-use Rattle.table.specs.View.{Entry, View, view}
-use Rattle.table.specs.Pass.{pass}
+use Rattle.table.specs.View.{Entry, View, view, pass}
 use Rattle.table.proofs.Laws.PassLeaves.{pass-marks, pass-entry}
 use Rattle.calls.specs.Transitions.{keepCopy}
 use Rattle.calls.specs.Write.{otherChange, otherChanges, otherStores, keptAfter, ownKeep, ownChanges, writeStores}

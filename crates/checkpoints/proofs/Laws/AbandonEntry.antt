@@ -18,8 +18,7 @@ use Rattle.table.proofs.Laws.Pass.{Steps, last, next}
 use Rattle.table.specs.Copies.{backBy}
 use Rattle.entries.specs.Frames.{frameOf, framesIn}
 use Rattle.entries.proofs.Laws.Frames.{frames-state}
-use Rattle.checkpoints.specs.Checkpoint.{isPrecommit}
-use Rattle.checkpoints.specs.Closing.{abandonChange}
+use Rattle.checkpoints.specs.Checkpoint.{isPrecommit, abandonChange}
 use Rattle.homes.proofs.Laws.Safe.{Safe}
 
 -- what Abandon leaves of an entry

@@ -10,7 +10,7 @@ use Rattle.table.specs.View.{Entry, view, current}
 use Rattle.table.specs.Answers.{carry}
 use Rattle.entries.proofs.Laws.CheckFacts.{Accepted}
 use Rattle.checkpoints.specs.Checkpoint.{isPrecommit}
-use Rattle.checkpoints.specs.Abandon.{abandonOf}
+use Rattle.checkpoints.specs.Commit.{abandonOf}
 use Rattle.checkpoints.proofs.Laws.AbandonEntry.{abandonedBy, abandoned}
 use Rattle.checkpoints.proofs.Laws.AbandonTheorem.{carried, abandon-keeps, abandon-abandoned}
 use Rattle.checkpoints.proofs.Laws.AbandonSound.{abandon-accepted}

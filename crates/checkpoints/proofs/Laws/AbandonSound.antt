@@ -24,9 +24,8 @@ use Rattle.entries.proofs.Laws.Kinds.{cleanCode, ownerCode, Dirty, Created, own
 use Rattle.entries.proofs.Laws.SoundFacts.{SoundTable, numberIn}
 use Rattle.entries.proofs.Laws.CheckFacts.{Accepted, facts-accepted}
 use Rattle.checkpoints.specs.declared.checkpoint.Closing.the-variants.{Abandoned}
-use Rattle.checkpoints.specs.Checkpoint.{isPrecommit}
-use Rattle.checkpoints.specs.Closing.{closeChange}
-use Rattle.checkpoints.specs.Abandon.{runningMark, abandonStores, abandonOf}
+use Rattle.checkpoints.specs.Checkpoint.{isPrecommit, closeChange}
+use Rattle.checkpoints.specs.Commit.{runningMark, abandonStores, abandonOf}
 use Rattle.homes.proofs.Laws.Kept.{live-test, test-live}
 use Rattle.checkpoints.proofs.Laws.KeptMarks.{KeptEntries}
 use Rattle.homes.proofs.Laws.SoundKept.{Off, shape-after}

@@ -8,19 +8,17 @@ use mathlib.Core.List.{List}
 use lib.ListN.{length}
 use Rattle.table.specs.declared.geometry.Geometry.{Geometry}
 use Rattle.table.specs.Stores.{Store, after}
-use Rattle.table.specs.View.{View, view, live}
+use Rattle.table.specs.View.{View, view, live, marksTo}
 use Rattle.table.proofs.Laws.Via.{Via, via-cut, via-whole, via-then, via-loosen, via-weaken}
 use Rattle.table.proofs.Laws.Pass.{Steps}
-use Rattle.table.specs.Pass.{marksTo}
 use Rattle.table.proofs.Laws.MarksPass.{Mixed, marks-via}
 use Rattle.table.specs.Answers.{carry}
 use Rattle.entries.proofs.Laws.SoundFacts.{SoundTable, phaseIn, numberIn}
 use Rattle.entries.proofs.Laws.CheckFacts.{Accepted, accepted-facts}
 use Rattle.checkpoints.specs.declared.checkpoint.Closing.the-variants.{Abandoned}
 use Rattle.homes.proofs.Laws.Plans.{Carried, acted-carried}
-use Rattle.checkpoints.specs.Checkpoint.{openAdmission}
-use Rattle.checkpoints.specs.Closing.{closeChange}
-use Rattle.checkpoints.specs.Abandon.{runningMark, abandonStores, abandonOf}
+use Rattle.checkpoints.specs.Checkpoint.{openAdmission, closeChange}
+use Rattle.checkpoints.specs.Commit.{runningMark, abandonStores, abandonOf}
 use Rattle.homes.proofs.Laws.SoundTells.{formed-at}
 use Rattle.homes.proofs.Laws.Kept.{Live, live-test}
 use Rattle.homes.proofs.Laws.Safe.{Safe}

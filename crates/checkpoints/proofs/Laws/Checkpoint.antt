@@ -16,9 +16,8 @@ use Rattle.table.proofs.Laws.Geometry.{entry-within}
 use Rattle.table.specs.Words.{phaseOf}
 use Rattle.table.specs.Stores.{Change, entryStore, Stored, StoredIn, runs}
 use Rattle.table.proofs.Laws.Stores.{runs-ext, stored-as, stored-none}
-use Rattle.table.specs.View.{Entry, View, view, live}
+use Rattle.table.specs.View.{Entry, View, view, live, pass}
 use Rattle.table.proofs.Laws.View.{mark-none, entry-word, state-read}
-use Rattle.table.specs.Pass.{pass}
 use Rattle.table.proofs.Laws.PassTurns.{Local, items-turn, nodes-turn, nodes-start}
 use Rattle.homes.specs.declared.admission.Admission.the-variants.{Admitted, Turned}
 use Rattle.checkpoints.specs.Checkpoint.{commonMark, isOpen, openAdmission, liveChanges, entriesBefore, entriesTo}

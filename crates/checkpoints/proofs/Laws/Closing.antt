@@ -1,4 +1,4 @@
--- The laws of `specs/Closing.antt`.
+-- Laws of `specs/Checkpoint.antt`: how an open checkpoint ends in an entry.
 use Prim.Native.Nat.{ℕ, _+_, _*_, _/_, _%_, _^_, _<_}
 use mathlib.Core.Path.{_≡_, refl, ap, _∙_}
 use mathlib.Core.Bool.{true, false, not, _||_}
@@ -13,8 +13,7 @@ use Rattle.table.specs.Stores.{stateTo}
 use Rattle.table.specs.View.{Entry, current, kept}
 use Rattle.checkpoints.specs.declared.checkpoint.Closing.{Closing}
 use Rattle.checkpoints.specs.declared.checkpoint.Closing.the-variants.{Committed, Abandoned}
-use Rattle.checkpoints.specs.Checkpoint.{isPrecommit}
-use Rattle.checkpoints.specs.Closing.{commitChange, abandonChange, closeChange}
+use Rattle.checkpoints.specs.Checkpoint.{isPrecommit, commitChange, abandonChange, closeChange}
 
 -- ---- the ways of the code
 

@@ -14,21 +14,18 @@ use Rattle.table.specs.Geometry.{wordsOf}
 use Rattle.table.specs.Words.{numberOf, markWord}
 use Rattle.table.specs.Stores.{Change, markStore, entryStore, Stored}
 use Rattle.table.proofs.Laws.Stores.{runs-ext, stored-then, stored-as}
-use Rattle.table.specs.View.{Entry, View, view, live}
+use Rattle.table.specs.View.{Entry, View, view, live, markTo, marksTo}
 use Rattle.table.proofs.Laws.Pass.{grid-within, grid-once}
 use Rattle.table.proofs.Laws.PassLeaves.{pass-marks}
-use Rattle.table.specs.Pass.{markTo, marksTo}
 use Rattle.table.proofs.Laws.MarksPass.{marks-as, marks-leave, marks-live}
 use Rattle.entries.specs.declared.check.Checked.the-variants.{Passed}
 use Rattle.entries.specs.Check.{faultOf}
 use Rattle.entries.proofs.Laws.CheckFacts.{accepted-facts}
 use Rattle.entries.proofs.Laws.SoundFacts.{sound-mark}
 use Rattle.checkpoints.specs.declared.checkpoint.Closing.the-variants.{Committed, Abandoned}
-use Rattle.checkpoints.specs.Checkpoint.{commonMark, liveChanges, entriesBefore, entriesTo}
-use Rattle.checkpoints.specs.Closing.{closeChange}
+use Rattle.checkpoints.specs.Checkpoint.{commonMark, liveChanges, entriesBefore, entriesTo, closeChange}
 use Rattle.checkpoints.specs.Open.{creatingMark, openStores}
-use Rattle.checkpoints.specs.Commit.{committingMark, committedMark, commitStores}
-use Rattle.checkpoints.specs.Abandon.{runningMark, abandonStores}
+use Rattle.checkpoints.specs.Commit.{committingMark, committedMark, commitStores, runningMark, abandonStores}
 use Rattle.checkpoints.specs.code.ClosingCode.{Agreed, MarksStored}
 
 -- ---- live marks agree

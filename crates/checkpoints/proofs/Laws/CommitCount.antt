@@ -17,18 +17,15 @@ use Rattle.table.proofs.Laws.Forms.{form-facts}
 use Rattle.table.specs.Changes.{changeOf}
 use Rattle.table.specs.Stores.{Change, stateTo, Store, markStore, entryStore, runs}
 use Rattle.table.proofs.Laws.Stores.{runs-sum, nested-flat}
-use Rattle.table.specs.View.{View, view, live, current, kept}
-use Rattle.table.specs.Pass.{markTo, marksTo}
+use Rattle.table.specs.View.{View, view, live, current, kept, markTo, marksTo}
 use Rattle.table.specs.Answers.{carry}
-use Rattle.entries.specs.Tally.{has, hasKept, countsOf}
-use Rattle.entries.specs.Items.{isCreated}
+use Rattle.entries.specs.Tally.{has, hasKept, countsOf, isCreated}
 use Rattle.entries.proofs.Laws.Kinds.{cleanCode, Clean, Created, Kind, clean, dirty, created, no-keep}
 use Rattle.entries.proofs.Laws.KindTests.{created-test}
 use Rattle.entries.proofs.Laws.SoundFacts.{SoundTable}
 use Rattle.homes.specs.declared.admission.Admission.the-variants.{Admitted}
 use Rattle.checkpoints.specs.declared.checkpoint.Closing.the-variants.{Committed}
-use Rattle.checkpoints.specs.Checkpoint.{isPrecommit, liveChanges, entriesBefore, entriesTo}
-use Rattle.checkpoints.specs.Closing.{closeChange, commitChange, commits}
+use Rattle.checkpoints.specs.Checkpoint.{isPrecommit, liveChanges, entriesBefore, entriesTo, closeChange, commitChange, commits}
 use Rattle.checkpoints.specs.Commit.{committingMark, committedMark, commitStores, commitAdmission, commitOf}
 use Rattle.checkpoints.proofs.Laws.KindMoved.{not-precommit}
 use Rattle.checkpoints.proofs.Laws.CommitTheorem.{carried, facts}

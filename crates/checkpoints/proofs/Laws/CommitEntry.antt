@@ -21,8 +21,7 @@ use Rattle.table.specs.Copies.{backCopy, backBy, forwardCopy}
 use Rattle.entries.specs.Frames.{frameOf, framesIn}
 use Rattle.entries.proofs.Laws.Frames.{frames-state}
 use Rattle.entries.specs.Dirty.{owns}
-use Rattle.checkpoints.specs.Checkpoint.{isPrecommit}
-use Rattle.checkpoints.specs.Closing.{commits, commitChange}
+use Rattle.checkpoints.specs.Checkpoint.{isPrecommit, commits, commitChange}
 
 -- what every single store keeps of an entry e₀ that has become e
 pub record SafeForward (e₀ e : Entry) : Type 0 where

@@ -15,7 +15,7 @@ use Rattle.table.specs.View.{Entry, View, view, current}
 use Rattle.table.specs.Copies.{copyNumber, copyValue, forwardCopy}
 use Rattle.table.specs.Answers.{carry}
 use Rattle.entries.proofs.Laws.CheckFacts.{Accepted}
-use Rattle.checkpoints.specs.Closing.{commits}
+use Rattle.checkpoints.specs.Checkpoint.{commits}
 use Rattle.checkpoints.specs.Commit.{commitOf}
 use Rattle.homes.proofs.Laws.Kept.{Live}
 use Rattle.checkpoints.proofs.Laws.Forward.{forward-number, forward-value}

@@ -29,8 +29,7 @@ use Rattle.entries.proofs.Laws.CheckFacts.{Accepted, facts-accepted}
 use Rattle.homes.specs.declared.admission.Admission.the-variants.{Admitted}
 use Rattle.checkpoints.specs.declared.checkpoint.Closing.the-variants.{Committed}
 use Rattle.entries.specs.Dirty.{owns}
-use Rattle.checkpoints.specs.Checkpoint.{isPrecommit}
-use Rattle.checkpoints.specs.Closing.{closeChange, commits}
+use Rattle.checkpoints.specs.Checkpoint.{isPrecommit, closeChange, commits}
 use Rattle.checkpoints.specs.Commit.{committingMark, committedMark, commitStores, commitAdmission, commitOf}
 use Rattle.homes.proofs.Laws.Kept.{live-test, test-live}
 use Rattle.homes.proofs.Laws.SoundKept.{Off, shape-after}

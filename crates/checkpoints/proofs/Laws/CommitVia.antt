@@ -7,18 +7,15 @@ use native.Mathlib.Omega.{arith}
 use Rattle.counting.proofs.Laws.Tests.{no-both}
 use Rattle.table.specs.declared.geometry.Geometry.{Geometry}
 use Rattle.table.specs.Words.{numberOf, markWord}
-use Rattle.table.specs.View.{View, live}
+use Rattle.table.specs.View.{View, live, marksTo}
 use Rattle.table.proofs.Laws.Via.{Via, via-then, via-loosen, via-weaken}
 use Rattle.table.proofs.Laws.Pass.{Steps}
-use Rattle.table.specs.Pass.{marksTo}
 use Rattle.table.proofs.Laws.MarksPass.{Mixed, Marking, marks-via}
 use Rattle.entries.proofs.Laws.SoundFacts.{SoundTable}
 use Rattle.checkpoints.specs.declared.checkpoint.Closing.the-variants.{Committed}
 use Rattle.homes.specs.declared.admission.Admission.the-variants.{Admitted}
-use Rattle.checkpoints.specs.Checkpoint.{entriesTo}
-use Rattle.checkpoints.specs.Closing.{closeChange}
-use Rattle.checkpoints.specs.Abandon.{runningMark}
-use Rattle.checkpoints.specs.Commit.{committingMark, committedMark, commitStores, commitAdmission}
+use Rattle.checkpoints.specs.Checkpoint.{entriesTo, closeChange}
+use Rattle.checkpoints.specs.Commit.{runningMark, committingMark, committedMark, commitStores, commitAdmission}
 use Rattle.homes.proofs.Laws.SoundTells.{formed-at}
 use Rattle.homes.proofs.Laws.Kept.{Live, live-test, test-live}
 use Rattle.checkpoints.proofs.Laws.NoneOwned.{none-owned}

@@ -17,7 +17,7 @@ use Rattle.entries.specs.Check.{faultOf}
 use Rattle.homes.specs.declared.admission.Admission.{Admission}
 use Rattle.homes.specs.declared.admission.Admission.the-variants.{Admitted, Turned}
 use Rattle.homes.proofs.Laws.Admission.{asked}
-use Rattle.homes.specs.Plans.{planAdmitted, planChecked, planBy}
+use Rattle.homes.specs.Admission.{planAdmitted, planChecked, planBy}
 use Rattle.homes.proofs.Laws.Plans.{plan-admitted}
 use Rattle.entries.specs.Dirty.{dirty, dirtyItem}
 use Rattle.checkpoints.specs.Checkpoint.{isOpen, openAdmission}

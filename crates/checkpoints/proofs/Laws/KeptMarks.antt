@@ -8,9 +8,8 @@ use Rattle.table.specs.declared.geometry.Geometry.{Geometry}
 use Rattle.table.specs.Words.{stateForm}
 use Rattle.table.specs.Stores.{markStore}
 use Rattle.table.proofs.Laws.Stores.{runs-ext}
-use Rattle.table.specs.View.{View, live}
+use Rattle.table.specs.View.{View, live, markTo, marksTo}
 use Rattle.table.specs.Copies.{backCopy}
-use Rattle.table.specs.Pass.{markTo, marksTo}
 use Rattle.table.proofs.Laws.MarksPass.{Mixed}
 use Rattle.entries.specs.Frames.{setsOf, setFrames, used}
 use Rattle.entries.proofs.Laws.SoundFacts.{SoundTable}

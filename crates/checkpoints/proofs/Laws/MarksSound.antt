@@ -17,8 +17,7 @@ use Rattle.table.proofs.Laws.Words.{phase-mark, number-mark}
 use Rattle.table.proofs.Laws.Forms.{mark-form}
 use Rattle.table.specs.Stores.{Change, markStore}
 use Rattle.table.proofs.Laws.Stores.{All, none, more, all-runs}
-use Rattle.table.specs.View.{Entry, View, live}
-use Rattle.table.specs.Pass.{markTo, marksTo}
+use Rattle.table.specs.View.{Entry, View, live, markTo, marksTo}
 use Rattle.entries.specs.Frames.{setsOf, setFrames, used}
 use Rattle.entries.proofs.Laws.Kinds.{Kind}
 use Rattle.entries.proofs.Laws.SoundFacts.{SoundTable}

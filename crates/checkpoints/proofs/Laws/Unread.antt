@@ -13,8 +13,7 @@ use Rattle.table.specs.declared.answers.Refusal.the-variants.{NotCreated}
 use Rattle.table.specs.Words.{shared, precommit2}
 use Rattle.table.specs.Stores.{Store, Change, entryStore}
 use Rattle.table.proofs.Laws.Stores.{runs-ext}
-use Rattle.table.specs.View.{Entry, View, live, current}
-use Rattle.table.specs.Pass.{markTo, marksTo}
+use Rattle.table.specs.View.{Entry, View, live, current, markTo, marksTo}
 use Rattle.table.specs.Answers.{carry}
 use Rattle.entries.specs.Dirty.{ownsAt, ownerOf, dirtyItem, noneDirty}
 use Rattle.entries.proofs.Laws.Unread.{over, Agrees, Alike, same-first, same-found, same-owner, same-dirty}
@@ -24,12 +23,10 @@ use Rattle.homes.specs.declared.places.Place.the-variants.{Current}
 use Rattle.homes.specs.Home.{homeOf}
 use Rattle.homes.proofs.Laws.Unread.{same-home, same-home-stores, home-live, plan-alike}
 use Rattle.checkpoints.specs.declared.checkpoint.Closing.the-variants.{Committed, Abandoned}
-use Rattle.checkpoints.specs.Checkpoint.{commonMark, isOpen, openAdmission, liveChanges, entriesBefore, entriesTo}
-use Rattle.checkpoints.specs.Closing.{closeChange}
+use Rattle.checkpoints.specs.Checkpoint.{commonMark, isOpen, openAdmission, liveChanges, entriesBefore, entriesTo, closeChange}
 use Rattle.checkpoints.specs.Open.{startAdmission, openOf}
 use Rattle.checkpoints.specs.Create.{sharesAt, sharerOf, partnerStores, createItem, noPartner, createPlan, createOf}
-use Rattle.checkpoints.specs.Commit.{committingMark, committedMark, commitStores, createdAdmission, commitAdmission, commitOf}
-use Rattle.checkpoints.specs.Abandon.{runningMark, abandonStores, abandonOf}
+use Rattle.checkpoints.specs.Commit.{committingMark, committedMark, commitStores, createdAdmission, commitAdmission, commitOf, runningMark, abandonStores, abandonOf}
 use Rattle.checkpoints.proofs.Laws.CreateCode.{next-owned}
 
 module _ (g : Geometry) (v : View) (e : ℕ → ℕ → Entry) (s : Agrees g v e) where

@@ -7,8 +7,7 @@ use lib.ListN.{length}
 use Rattle.table.specs.declared.geometry.Geometry.{Geometry}
 use Rattle.table.specs.Geometry.{wordsOf}
 use Rattle.table.specs.Stores.{Stored}
-use Rattle.table.specs.View.{view, live}
-use Rattle.table.specs.Pass.{marksTo}
+use Rattle.table.specs.View.{view, live, marksTo}
 use Rattle.checkpoints.specs.Checkpoint.{commonMark}
 
 -- ---- live marks agree

@@ -11,8 +11,7 @@ use Rattle.table.specs.View.{View}
 use Rattle.counting.specs.Counting.{count}
 use Rattle.counting.proofs.Laws.Counting.{only}
 use Rattle.counting.proofs.Laws.Values.{values-equal, values-unseen}
-use Rattle.entries.specs.Tally.{Counts, has, hasKept, copy, keep, countsOf}
-use Rattle.entries.specs.Items.{isClean, isOwned, isSaved, isDirty, isCreated, itemTest}
+use Rattle.entries.specs.Tally.{Counts, has, hasKept, copy, keep, countsOf, isClean, isOwned, isSaved, isDirty, isCreated, itemTest}
 use Rattle.entries.proofs.Laws.Kinds.{cleanCode, ownerCode, createdCode, Clean, Saved, Owned, modified-at, owner-at, Dirty, Created, Kind, clean, dirty, created, copy-live}
 use Rattle.entries.proofs.Laws.Codes.{two-codes, three-codes, codes-all}
 

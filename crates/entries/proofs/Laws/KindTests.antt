@@ -11,8 +11,7 @@ use Rattle.table.specs.View.{View, current}
 use Rattle.counting.specs.Counting.{count}
 use Rattle.counting.proofs.Laws.Counting.{Only, only-counts}
 use Rattle.counting.proofs.Laws.Values.{equal-values, unseen-values}
-use Rattle.entries.specs.Tally.{Counts, has, hasKept, copy, keep, countsOf}
-use Rattle.entries.specs.Items.{isClean, isOwned, isSaved, isDirty, isCreated, itemTest}
+use Rattle.entries.specs.Tally.{Counts, has, hasKept, copy, keep, countsOf, isClean, isOwned, isSaved, isDirty, isCreated, itemTest}
 use Rattle.entries.proofs.Laws.Kinds.{cleanCode, ownerCode, createdCode, Clean, Saved, Owned, modified-at, owner-at, Dirty, Created, Kind, clean, dirty, created, has-code}
 use Rattle.entries.proofs.Laws.Codes.{two-codes, three-codes, all-codes}
 

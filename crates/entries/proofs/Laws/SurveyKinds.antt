@@ -10,8 +10,7 @@ use Rattle.counting.specs.Counting.{every, sum, count, one}
 use Rattle.counting.proofs.Laws.Counting.{every-at, count-le, count-ext}
 use Rattle.counting.proofs.Laws.Values.{values-unseen, count-seen, values-ext, equal-values}
 use Rattle.table.specs.View.{View, live, current, kept}
-use Rattle.entries.specs.Tally.{Counts, has, hasKept, copy, keep, countsOf}
-use Rattle.entries.specs.Items.{itemTest}
+use Rattle.entries.specs.Tally.{Counts, has, hasKept, copy, keep, countsOf, itemTest}
 use Rattle.entries.proofs.Laws.Row.{quarter}
 use Rattle.entries.specs.code.Survey.{codesForm, holds, keeps, holdsAt, keepsAt, topAt, liveTop, weightAt, heldValues, keptValues, kindTest}
 use Rattle.entries.proofs.Laws.SurveyFields.{form-codes, keeps-count, tally-fields}

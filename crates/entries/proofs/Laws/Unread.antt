@@ -21,8 +21,7 @@ use Rattle.table.specs.View.{Entry, View, view, live, current, kept, changed, p
 use Rattle.entries.specs.declared.check.Checked.{Checked}
 use Rattle.entries.specs.declared.check.Checked.the-variants.{Passed, Failed}
 use Rattle.entries.specs.Frames.{setsOf, setOf, setFrames, framesAt, used, framesFit, frameFree}
-use Rattle.entries.specs.Tally.{countsOf, has, hasKept, copy, keep}
-use Rattle.entries.specs.Items.{itemTest}
+use Rattle.entries.specs.Tally.{countsOf, has, hasKept, copy, keep, itemTest}
 use Rattle.entries.specs.Dirty.{owns, ownsAt, ownerOf, dirty, dirtyItem}
 use Rattle.entries.specs.Sound.{marksForm, phasesOf, pointsOf, marksAgree, statesForm, nodeSound, nodesSound, itemSound, itemsSound, sound}
 use Rattle.entries.specs.Check.{sizesOf, soundOf, faultOf}

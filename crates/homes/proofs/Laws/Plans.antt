@@ -1,4 +1,4 @@
--- The laws of `specs/Plans.antt`.
+-- Laws of `specs/Admission.antt`: the common shape of a call's plan.
 use Prim.Native.Nat.{ℕ}
 use mathlib.Core.Path.{_≡_, refl, sym, ap, _∙_}
 use mathlib.Core.List.{List}
@@ -15,7 +15,7 @@ use Rattle.entries.specs.declared.check.Checked.the-variants.{Passed, Failed}
 use Rattle.entries.specs.Check.{faultOf}
 use Rattle.homes.specs.declared.admission.Admission.{Admission}
 use Rattle.homes.specs.declared.admission.Admission.the-variants.{Admitted, Turned}
-use Rattle.homes.specs.Plans.{planAdmitted, planChecked, planBy}
+use Rattle.homes.specs.Admission.{planAdmitted, planChecked, planBy}
 
 -- ---- the ways of the code: failed, turned down, admitted
 

@@ -13,10 +13,9 @@ use Rattle.table.specs.declared.geometry.Geometry.{Geometry}
 use Rattle.table.specs.Words.{markForm, phaseOf, numberOf, sharedCK1, invCK1, invCK2}
 use Rattle.table.specs.Stores.{Change, Store, entryStore, placeOf, after}
 use Rattle.table.proofs.Laws.Stores.{All, none, more, all-runs, after-length, after-off}
-use Rattle.table.specs.View.{View, live, current, kept}
+use Rattle.table.specs.View.{View, live, current, kept, pass}
 use Rattle.table.specs.Copies.{copyNumber, copyValue, backCopy}
 use Rattle.table.proofs.Laws.Copies.{back-number, back-value}
-use Rattle.table.specs.Pass.{pass}
 use Rattle.entries.specs.Tally.{hasKept, keep}
 use Rattle.entries.proofs.Laws.Kinds.{Saved, Kind}
 use Rattle.entries.proofs.Laws.Back.{Pair, backNumber, backValue, hasBack}

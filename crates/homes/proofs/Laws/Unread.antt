@@ -22,14 +22,13 @@ use Rattle.homes.specs.declared.admission.Admission.{Admission}
 use Rattle.homes.specs.declared.admission.Admission.the-variants.{Admitted, Turned}
 use Rattle.homes.specs.declared.places.Place.{Place}
 use Rattle.homes.specs.declared.places.Place.the-variants.{Current, Kept}
-use Rattle.homes.specs.Admission.{admissionOf, frameFull, frameAdmission}
+use Rattle.homes.specs.Admission.{admissionOf, frameFull, frameAdmission, planAdmitted, planChecked, planBy}
 use Rattle.homes.proofs.Laws.Admission.{Admits, admission-tells}
 use Rattle.homes.specs.Home.{sharedAt, sharedItem, hasRoom, placeFits, fits, nodeAfter, fitsAfter, passedOver, homeOf, noHome, droppedItem, arrivalOf, homeStoresBy, homeStores}
 use Rattle.homes.proofs.Laws.HomeLaws.{home-fits}
 use Rattle.homes.specs.Places.{codeIn, valueIn}
 use Rattle.homes.proofs.Laws.EvictCode.{evict-admits}
 use Rattle.homes.specs.Evict.{movedTo, evictStores, placeAdmission, evictAdmission, evictOf}
-use Rattle.homes.specs.Plans.{planAdmitted, planChecked, planBy}
 
 -- an admitted node is live
 pub admits-live : (g : Geometry) (v : View) (n b : ℕ) → Admits g v n b → live v n ≡ true

@@ -1,4 +1,4 @@
--- The laws of `specs/Arguments.antt`.
+-- Laws of `specs/Report.antt`: numbers that stand for an argument.
 use Prim.Native.Nat.{ℕ, _≤_, _<_}
 use mathlib.Core.Path.{_≡_, refl}
 use mathlib.Core.List.{List}
@@ -9,8 +9,7 @@ use Rattle.homes.specs.Evict.{evictOf}
 use Rattle.survivors.specs.declared.lost.Lost.{Lost}
 use Rattle.survivors.specs.Survivors.{lostBy}
 use Rattle.recovery.specs.Recover.{recoverOf}
-use Rattle.linkspan.specs.Report.{malformed, planned}
-use Rattle.linkspan.specs.Arguments.{evictAsked, recoverAsked}
+use Rattle.linkspan.specs.Report.{malformed, planned, evictAsked, recoverAsked}
 
 -- ---- the ways of the code
 

@@ -1,4 +1,4 @@
--- The laws of `specs/Part.antt`.
+-- Laws of `specs/Report.antt`: where a node's entries lie.
 use Prim.Native.Nat.{ℕ, _+_, _-_, _*_}
 use mathlib.Core.Path.{_≡_, refl, sym, ap, _∙_}
 use mathlib.Core.List.{List}
@@ -13,7 +13,7 @@ use Rattle.layout.specs.declared.stretch.Span.{Span}
 use Rattle.layout.specs.declared.stretch.Span.the-variants.{Entries, Refused}
 use Rattle.layout.specs.Stretch.{stretchOf, stretchPart, spanBy, Spanned}
 use Rattle.layout.proofs.Laws.Stretch.{answer-refused, answer-yes}
-use Rattle.linkspan.specs.Part.{partStart, partWords, PartReports}
+use Rattle.linkspan.specs.Report.{partStart, partWords, PartReports}
 
 -- these words of the table are the stretch
 pub part-is : {t : List ℕ} {n start words r : ℕ} → PartReports t n start words r → take words (drop start t) ≡ stretchPart t n (stretchOf t n)

@@ -4,9 +4,9 @@ use mathlib.Core.Path.{_≡_, refl, ap, _∙_}
 use mathlib.Core.List.{List}
 use Rattle.table.specs.declared.answers.Answer.{Answer}
 use Rattle.table.specs.declared.answers.Numbers.{Numbers}
-use Rattle.table.specs.Answers.{Plan, numbersOf, numbersAt, Meets, Told}
+use Rattle.table.specs.Answers.{malformedNumbers, Plan, numbersOf, numbersAt, Meets, Told}
 use Rattle.recovery.specs.Recover.{RecoverMeets}
-use Rattle.linkspan.specs.Report.{Asked, malformed, planned, malformedNumbers, HandedOut, Reports, RecoverReports}
+use Rattle.linkspan.specs.Report.{Asked, malformed, planned, HandedOut, Reports, RecoverReports}
 
 -- ---- the ways of the code
 

@@ -1,4 +1,4 @@
--- The laws of `specs/Words.antt`.
+-- Laws of `specs/Report.antt`: the words that a table needs.
 use Prim.Native.Nat.{ℕ, _-_, _*_, _≤_}
 use mathlib.Core.Path.{_≡_, refl, sym, ap, _∙_}
 use mathlib.Core.Bool.{true}
@@ -11,7 +11,7 @@ use Rattle.table.specs.declared.geometry.Made.{Made}
 use Rattle.table.specs.declared.geometry.Made.the-variants.{Allowed, NotAllowed}
 use Rattle.table.specs.Geometry.{inRanges, allowed, geometryOf, wordsOf}
 use Rattle.table.proofs.Laws.Geometry.{sized, roomy, made-allowed, allowed-made}
-use Rattle.linkspan.specs.Words.{madeWords, wordsFor}
+use Rattle.linkspan.specs.Report.{madeWords, wordsFor}
 
 -- ---- the ways of the code
 

@@ -20,10 +20,9 @@ use Rattle.homes.proofs.Laws.Serves.{Serves}
 use Rattle.survivors.specs.declared.lost.Lost.{Lost}
 use Rattle.counting.specs.Counting.{exists}
 use Rattle.counting.proofs.Laws.Exists.{exists-at, not-exists}
-use Rattle.survivors.specs.Survivors.{survivors}
+use Rattle.survivors.specs.Survivors.{survivors, largestNumber}
 use Rattle.recovery.specs.Sides.{hasCopy, copiesOn, itemFits, itemsFit}
 use Rattle.survivors.specs.Direction.{forwardIn}
-use Rattle.survivors.specs.ClosingMarks.{largestNumber}
 use Rattle.recovery.specs.Recover.{survivorsFormed, recoverOf}
 use Rattle.recovery.proofs.Laws.RecoverPlan.{Carries, recover-carries}
 use Rattle.recovery.proofs.Laws.Ready.{Holds, Ready}

@@ -26,8 +26,7 @@ use Rattle.entries.specs.Tally.{has}
 use Rattle.homes.proofs.Laws.Kept.{Live, test-live}
 use Rattle.checkpoints.specs.Checkpoint.{entriesTo}
 use Rattle.checkpoints.proofs.Laws.LivePass.{AllPassed, liveEach, entries-via}
-use Rattle.recovery.specs.Sides.{copyOn}
-use Rattle.recovery.specs.Rolling.{rollChange}
+use Rattle.recovery.specs.Sides.{copyOn, rollChange}
 use Rattle.recovery.specs.Numbering.{numberStores}
 use Rattle.recovery.specs.code.Notes.{hasOn}
 use Rattle.recovery.specs.code.Tallies.{numberWeight, stepOf, copyWeight, nodesOf, tallyOf, Tallied, plain}

@@ -11,14 +11,13 @@ use Rattle.table.specs.declared.geometry.Geometry.{Geometry}
 use Rattle.table.specs.Words.{markForm, numberOf, markWord, sharedCK1, sharedCK2}
 use Rattle.table.proofs.Laws.Words.{number-mark}
 use Rattle.table.proofs.Laws.Forms.{mark-form}
-use Rattle.table.specs.View.{View, live, current}
+use Rattle.table.specs.View.{View, live, current, marksTo}
 use Rattle.table.proofs.Laws.Via.{Via, via-weaken}
-use Rattle.table.specs.Pass.{marksTo}
 use Rattle.table.proofs.Laws.MarksPass.{Mixed, Marking, marks-via, marks-live}
 use Rattle.entries.specs.Frames.{used, framesAt}
 use Rattle.entries.specs.Tally.{has}
 use Rattle.homes.proofs.Laws.Kept.{Live, live-test, test-live}
-use Rattle.survivors.specs.ClosingMarks.{largest, largestNumber, closingStores}
+use Rattle.survivors.specs.Survivors.{largest, largestNumber, closingStores}
 use Rattle.recovery.proofs.Laws.Largest.{largest-at, largest-least, largest-stays}
 use Rattle.survivors.specs.Direction.{forwardIn}
 use Rattle.recovery.proofs.Laws.PlainSides.{plain-sided}

@@ -10,9 +10,8 @@ use Rattle.table.specs.declared.geometry.Geometry.{Geometry}
 use Rattle.table.specs.Geometry.{wordsOf}
 use Rattle.table.specs.Stores.{Change, Store, sizeStore, markStore, entryStore, Stored}
 use Rattle.table.proofs.Laws.Stores.{All, none, more, all-runs, after-zero, stored-then, stored-as}
-use Rattle.table.specs.View.{View, view, update, updates}
+use Rattle.table.specs.View.{View, view, update, updates, pass}
 use Rattle.table.proofs.Laws.ViewAfter.{Within, view-after}
-use Rattle.table.specs.Pass.{pass}
 use Rattle.survivors.specs.declared.lost.Lost.{Lost}
 use Rattle.survivors.specs.declared.lost.Lost.the-variants.{Nobody, Node}
 use Rattle.survivors.specs.Survivors.{survivors}

@@ -3,7 +3,7 @@ use Prim.Native.Nat.{ℕ, zero, suc, _≤_, _<_}
 use mathlib.Core.Path.{_≡_}
 use native.Mathlib.Omega.{arith}
 use Rattle.counting.proofs.Laws.Counting.{below}
-use Rattle.survivors.specs.ClosingMarks.{largest, largestNumber}
+use Rattle.survivors.specs.Survivors.{largest, largestNumber}
 use lib.Dec.{eqb}
 use borrow.Author.Tests.{eqb-true, not-false}
 use Rattle.counting.proofs.Laws.Tests.{by-cases}

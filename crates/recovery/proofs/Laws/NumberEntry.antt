@@ -18,7 +18,7 @@ use Rattle.table.specs.View.{Entry, current, kept, changed}
 use Rattle.table.proofs.Laws.Pass.{Steps, last, next}
 use Rattle.entries.specs.Frames.{frameOf, framesIn}
 use Rattle.entries.proofs.Laws.Frames.{frames-state, frame-le}
-use Rattle.recovery.specs.Rolling.{settled}
+use Rattle.recovery.specs.Sides.{settled}
 use Rattle.recovery.specs.Numbering.{numberAfter}
 use Rattle.recovery.proofs.Laws.Ready.{PlainEntry}
 

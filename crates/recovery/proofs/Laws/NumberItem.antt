@@ -16,9 +16,8 @@ use Rattle.table.specs.Changes.{checkpointOf}
 use Rattle.table.specs.View.{Entry, View, live, current}
 use Rattle.entries.specs.Tally.{has, copy}
 use Rattle.entries.proofs.Laws.Kinds.{has-live, has-code, has-at, has-copy, copy-live, copy-code}
-use Rattle.recovery.specs.Numbering.{holders, numberAfter, numberAt}
+use Rattle.recovery.specs.Numbering.{holders, numberAfter, numberAt, holderOf}
 use Rattle.counting.proofs.Laws.First.{first-only}
-use Rattle.recovery.specs.Partners.{holderOf}
 use Rattle.recovery.proofs.Laws.Tallies.{holdersOf, Holder}
 use Rattle.recovery.proofs.Laws.Ready.{Paired, Numbered, pair, alone}
 use Rattle.counting.proofs.Laws.Ranks.{Ranked, count-above, ranked}

@@ -22,7 +22,7 @@ use Rattle.entries.specs.Tally.{has}
 use Rattle.entries.proofs.Laws.Kinds.{has-live, has-code, has-at}
 use Rattle.homes.proofs.Laws.Kept.{Live, live-test, test-live}
 use Rattle.homes.proofs.Laws.FramesKept.{used-no-more}
-use Rattle.recovery.specs.Rolling.{settled}
+use Rattle.recovery.specs.Sides.{settled}
 use Rattle.recovery.specs.Numbering.{holders, numberAfter, numberAt, numberChange, numberStores}
 use Rattle.recovery.proofs.Laws.Ready.{HasOne, Plain, Numbered}
 use Rattle.counting.proofs.Laws.Ranks.{ranked}

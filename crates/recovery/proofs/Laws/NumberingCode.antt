@@ -20,8 +20,7 @@ use Rattle.table.specs.Changes.{checkpointOf}
 use Rattle.table.proofs.Laws.Changes.{checkpoint-low}
 use Rattle.table.specs.Stores.{Store, Stored, entryStore, runs}
 use Rattle.table.proofs.Laws.Stores.{runs-ext, runs-add, stored-then, stored-as, stored-none, loop-starts, loop-turns}
-use Rattle.table.specs.View.{Entry, View, view, live, current}
-use Rattle.table.specs.Pass.{pass}
+use Rattle.table.specs.View.{Entry, View, view, live, current, pass}
 use Rattle.table.proofs.Laws.Pass.{columns-within, grid-once}
 use Rattle.table.proofs.Laws.PassLeaves.{pass-marks, pass-entry}
 use Rattle.entries.specs.Tally.{has}
@@ -29,7 +28,7 @@ use Rattle.survivors.specs.declared.lost.Lost.{Lost}
 use Rattle.recovery.specs.declared.numbering.Holders.{Holders}
 use Rattle.recovery.proofs.Laws.Followed.{stored-any}
 use Rattle.survivors.specs.Survivors.{survivors}
-use Rattle.recovery.specs.Rolling.{settled}
+use Rattle.recovery.specs.Sides.{settled}
 use Rattle.recovery.specs.Numbering.{holders, numberAfter, numberAt, numberChange, numberStores}
 use Rattle.survivors.proofs.Laws.SurvivorsCode.{survivor-entry, survivor-marks}
 use Rattle.recovery.proofs.Laws.RollingCode.{runs-empty}

@@ -13,11 +13,9 @@ use Rattle.table.proofs.Laws.Stores.{All, stored-none}
 use Rattle.table.specs.View.{View, view, updates}
 use Rattle.checkpoints.specs.Checkpoint.{entriesTo}
 use Rattle.survivors.specs.declared.lost.Lost.{Lost}
-use Rattle.survivors.specs.Survivors.{survivors}
-use Rattle.recovery.specs.Rolling.{rollChange, rollStores}
-use Rattle.recovery.specs.Numbering.{numberStores}
-use Rattle.recovery.specs.Partners.{partnersStores}
-use Rattle.survivors.specs.ClosingMarks.{largestNumber}
+use Rattle.survivors.specs.Survivors.{survivors, largestNumber}
+use Rattle.recovery.specs.Sides.{rollChange, rollStores}
+use Rattle.recovery.specs.Numbering.{numberStores, partnersStores}
 use Rattle.recovery.specs.code.Tallies.{Tallied, plain}
 use Rattle.recovery.proofs.Laws.Tallies.{holders-told, holder-told}
 use Rattle.recovery.specs.code.NumberingCode.{Unkept}

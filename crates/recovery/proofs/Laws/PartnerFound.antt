@@ -25,7 +25,7 @@ use Rattle.homes.proofs.Laws.HomeCode.{after-below}
 use Rattle.homes.proofs.Laws.HomeLaws.{after-other, after-reaches}
 use Rattle.counting.proofs.Laws.Crowded.{sum-at, sum-fewer, crowded}
 use Rattle.survivors.specs.Survivors.{survivorCount, tooFewWith, tooFew}
-use Rattle.recovery.specs.Partners.{takes, takesAfter, partnerOf}
+use Rattle.recovery.specs.Numbering.{takes, takesAfter, partnerOf}
 use Rattle.recovery.proofs.Laws.Ready.{Plain, Paired, Numbered, pair, alone}
 
 -- 14 is not met: the other survivors have frames for every copy but one

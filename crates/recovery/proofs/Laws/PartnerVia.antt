@@ -27,7 +27,7 @@ use Rattle.entries.proofs.Laws.Update.{Elsewhere, only-gains, only-keeps}
 use Rattle.homes.proofs.Laws.Kept.{Live, live-test, test-live}
 use Rattle.homes.proofs.Laws.OneEntry.{OneAt, one-via, one-held}
 use Rattle.survivors.specs.Survivors.{tooFew}
-use Rattle.recovery.specs.Partners.{single, holderOf, partnerOf, partnerChanges, partnerFrom, partnerStores, partnersStores}
+use Rattle.recovery.specs.Numbering.{single, holderOf, partnerOf, partnerChanges, partnerFrom, partnerStores, partnersStores}
 use Rattle.recovery.proofs.Laws.Ready.{PlainEntry, HasOne, Plain, Paired, Numbered, pair, alone}
 use Rattle.recovery.proofs.Laws.PartnerFound.{coded, pair-copies, partner-found}
 use Rattle.recovery.proofs.Laws.StagedVia.{via-staged}

@@ -30,7 +30,7 @@ use Rattle.survivors.specs.declared.lost.Lost.{Lost}
 use Rattle.survivors.specs.declared.lost.Lost.the-variants.{Nobody, Node}
 use Rattle.survivors.specs.Survivors.{survivors}
 use Rattle.survivors.proofs.Laws.SurvivorsCode.{survivor-entry}
-use Rattle.recovery.specs.Partners.{single, holderOf, takes, takesAfter, partnerOf, partnerChanges, partnerFrom, partnerStores, staged, partnersStores}
+use Rattle.recovery.specs.Numbering.{single, holderOf, takes, takesAfter, partnerOf, partnerChanges, partnerFrom, partnerStores, staged, partnersStores}
 use Rattle.recovery.proofs.Laws.Followed.{stored-any, view-left, Entered, entered-changes, entered-within, survivors-entered, stage-follows}
 use Rattle.recovery.specs.code.Rows.{HasEntry}
 use Rattle.recovery.specs.code.PartnersCounts.{AgreesTo, Counts, usedWith}

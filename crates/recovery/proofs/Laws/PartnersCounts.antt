@@ -19,7 +19,7 @@ use Rattle.table.specs.View.{Entry, View, live, current, put₂, changed, updat
 use Rattle.table.proofs.Laws.Puts.{put₂-same, put₂-other}
 use Rattle.entries.specs.Frames.{frameOf, framesIn, framesAt, used}
 use Rattle.entries.proofs.Laws.Frames.{frames-state}
-use Rattle.recovery.specs.Partners.{partnerChanges}
+use Rattle.recovery.specs.Numbering.{partnerChanges}
 use Rattle.recovery.specs.code.PartnersCounts.{AgreesTo, usedWith}
 
 -- ---- the count fills up

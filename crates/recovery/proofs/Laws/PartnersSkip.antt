@@ -23,7 +23,7 @@ use Rattle.homes.proofs.Laws.HomeCode.{after-below}
 use Rattle.survivors.specs.declared.lost.Lost.{Lost}
 use Rattle.survivors.specs.Survivors.{survivors}
 use Rattle.survivors.proofs.Laws.SurvivorsCode.{survivor-entry, survivor-marks}
-use Rattle.recovery.specs.Partners.{single, holderOf, takesAfter, partnerOf, partnerChanges, partnerFrom, partnerStores, staged}
+use Rattle.recovery.specs.Numbering.{single, holderOf, takesAfter, partnerOf, partnerChanges, partnerFrom, partnerStores, staged}
 use Rattle.recovery.specs.code.PartnersCode.{Ready, Turned}
 use Rattle.recovery.proofs.Laws.PartnersCode.{holder-there, item-other, items-ready}
 use Rattle.recovery.specs.code.Tallies.{holdersBy, holderBy}

@@ -14,7 +14,7 @@ use Rattle.entries.specs.Tally.{has, copy}
 use Rattle.homes.proofs.Laws.Kept.{Live}
 use Rattle.recovery.specs.Sides.{copyOn}
 use Rattle.survivors.specs.Direction.{forwardIn}
-use Rattle.survivors.specs.ClosingMarks.{largestNumber}
+use Rattle.survivors.specs.Survivors.{largestNumber}
 
 -- a survivor has a recovery copy of item b on a side
 pub record Holds (g : Geometry) (forward : Bool) (w : View) (b n : ℕ) : Type 0 where

@@ -23,13 +23,12 @@ use Rattle.entries.proofs.Laws.CheckFacts.{sizes-surveyable}
 use Rattle.entries.specs.code.SurveySound.{Surveyable}
 use Rattle.homes.specs.declared.admission.Admission.{Admission}
 use Rattle.homes.specs.declared.admission.Admission.the-variants.{Admitted, Turned}
-use Rattle.homes.specs.Plans.{planAdmitted}
+use Rattle.homes.specs.Admission.{planAdmitted}
 use Rattle.survivors.specs.declared.lost.Lost.{Lost}
 use Rattle.recovery.specs.declared.census.Census.{Census}
-use Rattle.survivors.specs.Survivors.{lostStores, survivors, lostOutside, tooFew}
+use Rattle.survivors.specs.Survivors.{lostStores, survivors, lostOutside, tooFew, closingStores}
 use Rattle.recovery.specs.Sides.{itemsFit}
 use Rattle.survivors.specs.Direction.{forwardIn}
-use Rattle.survivors.specs.ClosingMarks.{closingStores}
 use Rattle.recovery.proofs.Laws.RecoverPlan.{admission-admits}
 use Rattle.recovery.proofs.Laws.RecoverStages.{survivors-same, lost-stores-within, survivors-stored, recover-stored}
 use Rattle.recovery.specs.code.RollingCode.{Rolled}

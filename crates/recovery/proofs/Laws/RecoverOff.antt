@@ -12,12 +12,10 @@ use Rattle.homes.proofs.Laws.SoundKept.{Off, entry-off, pass-off}
 use Rattle.checkpoints.proofs.Laws.MarksSound.{marks-off, entries-off}
 use Rattle.survivors.specs.declared.lost.Lost.{Lost}
 use Rattle.survivors.specs.declared.lost.Lost.the-variants.{Nobody, Node}
-use Rattle.survivors.specs.Survivors.{lostStores, survivors}
+use Rattle.survivors.specs.Survivors.{lostStores, survivors, closingStores}
 use Rattle.survivors.specs.Direction.{forwardIn}
-use Rattle.recovery.specs.Rolling.{rollChange, rollStores}
-use Rattle.recovery.specs.Numbering.{numberChange, numberStores}
-use Rattle.recovery.specs.Partners.{single, holderOf, partnerOf, partnerChanges, partnerFrom, partnerStores, staged, partnersStores}
-use Rattle.survivors.specs.ClosingMarks.{closingStores}
+use Rattle.recovery.specs.Sides.{rollChange, rollStores}
+use Rattle.recovery.specs.Numbering.{numberChange, numberStores, single, holderOf, partnerOf, partnerChanges, partnerFrom, partnerStores, staged, partnersStores}
 use Rattle.recovery.specs.Recover.{followed, survivorStores, recoverStores}
 
 module _ (g : Geometry) where

@@ -18,7 +18,7 @@ use Rattle.entries.specs.Check.{sizesOf}
 use Rattle.homes.specs.declared.admission.Admission.{Admission}
 use Rattle.homes.specs.declared.admission.Admission.the-variants.{Admitted, Turned}
 use Rattle.homes.proofs.Laws.Admission.{passed}
-use Rattle.homes.specs.Plans.{planAdmitted}
+use Rattle.homes.specs.Admission.{planAdmitted}
 use Rattle.survivors.specs.declared.lost.Lost.{Lost}
 use Rattle.survivors.specs.Survivors.{survivors, lostOutside, tooFew}
 use Rattle.recovery.specs.Sides.{itemsFit}

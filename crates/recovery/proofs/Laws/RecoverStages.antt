@@ -18,12 +18,10 @@ use Rattle.table.proofs.Laws.Pass.{columns-within, grid-within}
 use Rattle.checkpoints.specs.Checkpoint.{liveChanges, entriesBefore, entriesTo}
 use Rattle.survivors.specs.declared.lost.Lost.{Lost}
 use Rattle.survivors.specs.declared.lost.Lost.the-variants.{Nobody, Node}
-use Rattle.survivors.specs.Survivors.{lostStores, survivors, lostOutside}
+use Rattle.survivors.specs.Survivors.{lostStores, survivors, lostOutside, closingStores}
 use Rattle.survivors.specs.Direction.{forwardIn}
-use Rattle.recovery.specs.Rolling.{rollChange, rollStores}
-use Rattle.recovery.specs.Numbering.{numberChange, numberStores}
-use Rattle.recovery.specs.Partners.{partnersStores}
-use Rattle.survivors.specs.ClosingMarks.{closingStores}
+use Rattle.recovery.specs.Sides.{rollChange, rollStores}
+use Rattle.recovery.specs.Numbering.{numberChange, numberStores, partnersStores}
 use Rattle.recovery.specs.Recover.{followed, survivorStores, recoverStores}
 use Rattle.recovery.proofs.Laws.Followed.{Entered, entered-pass, stage-follows}
 use Rattle.recovery.proofs.Laws.PartnersCode.{entered-partners}

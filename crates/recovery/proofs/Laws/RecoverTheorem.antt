@@ -17,7 +17,7 @@ use Rattle.entries.specs.Check.{sizesOf}
 use Rattle.entries.proofs.Laws.CheckFacts.{Shape, sizes-facts}
 use Rattle.homes.proofs.Laws.SoundKept.{shape-after}
 use Rattle.homes.proofs.Laws.Serves.{Serves, serves-by}
-use Rattle.homes.specs.Plans.{planAdmitted}
+use Rattle.homes.specs.Admission.{planAdmitted}
 use Rattle.survivors.specs.declared.lost.Lost.{Lost}
 use Rattle.survivors.specs.Survivors.{survivors, survivorCount, lostOutside, tooFewWith, tooFew}
 use Rattle.recovery.specs.Recover.{scratchWords, recoverStores, recoverAdmission, recoverChecked, recoverOf}

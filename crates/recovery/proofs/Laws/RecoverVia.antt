@@ -12,11 +12,9 @@ use Rattle.table.proofs.Laws.Puts.{put₁-case}
 use Rattle.table.proofs.Laws.Via.{Via, step, via-weaken, via-loosen}
 use Rattle.survivors.specs.declared.lost.Lost.{Lost}
 use Rattle.survivors.specs.declared.lost.Lost.the-variants.{Nobody, Node}
-use Rattle.survivors.specs.Survivors.{survivors, lostOutside, tooFew}
-use Rattle.recovery.specs.Rolling.{rollStores}
-use Rattle.recovery.specs.Numbering.{numberStores}
-use Rattle.recovery.specs.Partners.{partnersStores}
-use Rattle.survivors.specs.ClosingMarks.{closingStores}
+use Rattle.survivors.specs.Survivors.{survivors, lostOutside, tooFew, closingStores}
+use Rattle.recovery.specs.Sides.{rollStores}
+use Rattle.recovery.specs.Numbering.{numberStores, partnersStores}
 use Rattle.recovery.specs.Recover.{followed, survivorStores, recoverStores}
 use Rattle.recovery.proofs.Laws.Ready.{Ready, Going, Plain}
 use Rattle.recovery.proofs.Laws.Recovered.{Recovered}

@@ -23,8 +23,7 @@ use Rattle.table.specs.Copies.{backBy}
 use Rattle.table.proofs.Laws.Copies.{value-free, back-moved}
 use Rattle.entries.specs.Frames.{frameOf, framesIn}
 use Rattle.entries.proofs.Laws.Frames.{frames-state, frame-le}
-use Rattle.recovery.specs.Sides.{sideEvent, copyOn}
-use Rattle.recovery.specs.Rolling.{bringBack, settled, rollChange}
+use Rattle.recovery.specs.Sides.{sideEvent, copyOn, bringBack, settled, rollChange}
 use Rattle.recovery.proofs.Laws.Ready.{PlainEntry}
 
 -- what every single store keeps of an entry e₀ that has become e

@@ -12,7 +12,7 @@ use Rattle.homes.proofs.Laws.Kept.{Live}
 use Rattle.homes.proofs.Laws.FramesKept.{used-no-more}
 use Rattle.checkpoints.proofs.Laws.LivePass.{liveEach, entries-via}
 use Rattle.survivors.specs.Direction.{forwardIn}
-use Rattle.recovery.specs.Rolling.{rollChange, rollStores}
+use Rattle.recovery.specs.Sides.{rollChange, rollStores}
 use Rattle.recovery.proofs.Laws.Ready.{Sided, Ready, Going, Plain}
 use Rattle.recovery.proofs.Laws.SameMarks.{same-live, live-same, same-going}
 use Rattle.recovery.proofs.Laws.PlainSides.{plain-copied, copied-plain, plain-value}

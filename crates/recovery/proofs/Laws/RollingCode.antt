@@ -14,16 +14,14 @@ use Rattle.table.specs.declared.changes.Event.the-variants.{RollBack, RollForwa
 use Rattle.table.specs.Changes.{changeOf}
 use Rattle.table.specs.Stores.{Store, Change, Stored, StoredIn, entryStore, stateTo, valueTo, runs}
 use Rattle.table.proofs.Laws.Stores.{runs-ext, stored-none, stored-three, stored-as, loop-starts, loop-turns}
-use Rattle.table.specs.View.{Entry, View, view, current, kept}
-use Rattle.table.specs.Pass.{pass}
+use Rattle.table.specs.View.{Entry, View, view, current, kept, pass}
 use Rattle.table.proofs.Laws.PassTurns.{Local, items-turn, nodes-turn}
 use Rattle.entries.proofs.Laws.Row.{row-read, row-state}
 use Rattle.checkpoints.specs.Checkpoint.{liveChanges, entriesBefore}
 use Rattle.checkpoints.proofs.Laws.Checkpoint.{changes-local, changes-live, changes-dead}
 use Rattle.survivors.specs.declared.lost.Lost.{Lost}
 use Rattle.survivors.specs.Survivors.{survivors}
-use Rattle.recovery.specs.Sides.{sideEvent}
-use Rattle.recovery.specs.Rolling.{bringBack, settled, rollChange}
+use Rattle.recovery.specs.Sides.{sideEvent, bringBack, settled, rollChange}
 use Rattle.survivors.proofs.Laws.SurvivorsCode.{survivor-entry, survivor-marks}
 use Rattle.recovery.specs.code.Rows.{stateIn, reached}
 use Rattle.recovery.proofs.Laws.Rows.{reached-start, reached-next, listed-turn, listed-end, row-room}

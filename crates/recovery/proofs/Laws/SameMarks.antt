@@ -8,7 +8,7 @@ use Rattle.table.specs.View.{View}
 use Rattle.entries.specs.Frames.{setsOf, setFrames, used}
 use Rattle.homes.proofs.Laws.Kept.{Live}
 use Rattle.survivors.specs.Direction.{forwardIn}
-use Rattle.survivors.specs.ClosingMarks.{largestNumber}
+use Rattle.survivors.specs.Survivors.{largestNumber}
 use Rattle.recovery.proofs.Laws.Ready.{Sided, Ready, Going}
 
 module _ (g : Geometry) (w u : View) (same : u .mark ≡ w .mark) where

@@ -6,7 +6,7 @@ use Rattle.table.specs.declared.geometry.Geometry.{Geometry}
 use Rattle.table.specs.Stores.{Store}
 use Rattle.table.specs.View.{View, updates}
 use Rattle.table.proofs.Laws.Via.{Via, done, step}
-use Rattle.recovery.specs.Partners.{staged}
+use Rattle.recovery.specs.Numbering.{staged}
 
 module _ {g : Geometry} {P : View → Type 0} where
   -- one list, then another that is made for the view that it leaves

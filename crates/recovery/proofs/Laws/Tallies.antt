@@ -17,7 +17,7 @@ use Rattle.table.specs.declared.geometry.Geometry.{Geometry}
 use Rattle.table.specs.View.{View, live, current, kept}
 use Rattle.entries.specs.Tally.{has}
 use Rattle.entries.proofs.Laws.Kinds.{has-at}
-use Rattle.recovery.specs.Rolling.{settled}
+use Rattle.recovery.specs.Sides.{settled}
 use Rattle.recovery.specs.Numbering.{holders, numberAfter, numberAt, numberChange}
 use Rattle.recovery.specs.code.Tallies.{copyWeight, nodesOf, tallyOf, plain, holdersBy, holderBy}
 

@@ -16,9 +16,8 @@ use Rattle.table.specs.declared.geometry.Geometry.{Geometry}
 use Rattle.table.specs.Words.{invalid}
 use Rattle.table.specs.Stores.{Store, sizeStore, markStore, entryStore}
 use Rattle.table.proofs.Laws.Stores.{All, none, more, runs-ext}
-use Rattle.table.specs.View.{Entry, View, view, live, current, update, updates}
+use Rattle.table.specs.View.{Entry, View, view, live, current, update, updates, markTo, marksTo}
 use Rattle.table.specs.Copies.{copyNumber, copyValue}
-use Rattle.table.specs.Pass.{markTo, marksTo}
 use Rattle.table.specs.Answers.{Plan, carry}
 use Rattle.entries.specs.declared.check.Checked.{Checked}
 use Rattle.entries.specs.declared.check.Checked.the-variants.{Passed, Failed}
@@ -28,16 +27,13 @@ use Rattle.entries.specs.Sound.{marksForm}
 use Rattle.entries.proofs.Laws.Unread.{over, Agrees, same-test, same-first, same-found, same-free, same-nodes, updates-over, updates-agree}
 use Rattle.homes.specs.declared.admission.Admission.{Admission}
 use Rattle.homes.specs.Home.{nodeAfter}
-use Rattle.homes.specs.Plans.{planAdmitted}
+use Rattle.homes.specs.Admission.{planAdmitted}
 use Rattle.checkpoints.proofs.Laws.Unread.{same-entries-to}
 use Rattle.survivors.specs.declared.lost.Lost.{Lost}
-use Rattle.survivors.specs.Survivors.{lostStores, survivors, survivorCount, tooFew}
+use Rattle.survivors.specs.Survivors.{lostStores, survivors, survivorCount, tooFew, largestNumber, closingStores}
 use Rattle.survivors.specs.Direction.{forwardIn}
-use Rattle.survivors.specs.ClosingMarks.{largestNumber, closingStores}
-use Rattle.recovery.specs.Sides.{copyOn, hasCopy, copiesOn, itemFits, itemsFit}
-use Rattle.recovery.specs.Rolling.{rollChange, rollStores}
-use Rattle.recovery.specs.Numbering.{holders, numberAt, numberChange, numberStores}
-use Rattle.recovery.specs.Partners.{single, holderOf, takes, takesAfter, partnerOf, partnerFrom, partnerStores, staged, partnersStores}
+use Rattle.recovery.specs.Sides.{copyOn, hasCopy, copiesOn, itemFits, itemsFit, rollChange, rollStores}
+use Rattle.recovery.specs.Numbering.{holders, numberAt, numberChange, numberStores, single, holderOf, takes, takesAfter, partnerOf, partnerFrom, partnerStores, staged, partnersStores}
 use Rattle.recovery.specs.Recover.{followed, survivorStores, recoverStores, survivorsFormed, recoverAdmission, recoverChecked, recoverOf}
 use Rattle.recovery.proofs.Laws.Followed.{Entered}
 use Rattle.recovery.proofs.Laws.PartnersCode.{entered-staged, entered-partners}

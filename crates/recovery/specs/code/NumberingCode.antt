@@ -15,7 +15,7 @@ use Rattle.table.specs.View.{Entry, View, view, live, current, kept}
 use Rattle.survivors.specs.declared.lost.Lost.{Lost}
 use Rattle.recovery.specs.declared.numbering.Holders.{Holders}
 use Rattle.survivors.specs.Survivors.{survivors}
-use Rattle.recovery.specs.Rolling.{settled}
+use Rattle.recovery.specs.Sides.{settled}
 use Rattle.recovery.specs.Numbering.{holders, numberAfter, numberChange}
 use Rattle.recovery.specs.code.Tallies.{Tallied, plain}
 

@@ -12,8 +12,7 @@ use Rattle.survivors.specs.declared.lost.Lost.{Lost}
 use Rattle.survivors.specs.Survivors.{survivors}
 use Rattle.recovery.specs.Sides.{itemsFit}
 use Rattle.survivors.specs.Direction.{forwardIn}
-use Rattle.recovery.specs.Numbering.{numberStores}
-use Rattle.recovery.specs.Partners.{partnersStores}
+use Rattle.recovery.specs.Numbering.{numberStores, partnersStores}
 use Rattle.recovery.specs.Recover.{survivorsFormed}
 use Rattle.recovery.specs.code.Tallies.{plain}
 use Rattle.recovery.specs.code.NumberingCode.{Numbering}

@@ -9,7 +9,7 @@ use Rattle.table.specs.View.{View, view}
 use Rattle.entries.specs.Tally.{copy}
 use Rattle.survivors.specs.declared.lost.Lost.{Lost}
 use Rattle.survivors.specs.Survivors.{survivors}
-use Rattle.recovery.specs.Partners.{holderOf}
+use Rattle.recovery.specs.Numbering.{holderOf}
 use Rattle.recovery.specs.code.PartnersCode.{Ready}
 use Rattle.recovery.specs.code.Tallies.{holdersBy, holderBy}
 

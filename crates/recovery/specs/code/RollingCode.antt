@@ -9,12 +9,11 @@ use Rattle.table.specs.declared.geometry.Geometry.{Geometry}
 use Rattle.table.specs.Geometry.{wordsOf}
 use Rattle.table.specs.Words.{invalid}
 use Rattle.table.specs.Stores.{Change, Stored, stateTo}
-use Rattle.table.specs.View.{view}
-use Rattle.table.specs.Pass.{pass}
+use Rattle.table.specs.View.{view, pass}
 use Rattle.checkpoints.specs.Checkpoint.{liveChanges, entriesTo}
 use Rattle.survivors.specs.declared.lost.Lost.{Lost}
 use Rattle.survivors.specs.Survivors.{survivors}
-use Rattle.recovery.specs.Rolling.{rollChange}
+use Rattle.recovery.specs.Sides.{rollChange}
 use Rattle.recovery.specs.code.Rows.{stateIn, Listed}
 
 -- ---- one entry

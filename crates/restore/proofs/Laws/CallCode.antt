@@ -1,4 +1,4 @@
--- The laws of `specs/CallCode.antt`.
+-- Laws of `specs/Call.antt`: the contract of the one function that carries any call out, call by call.
 use Prim.Native.Nat.{ℕ}
 use mathlib.Core.Path.{_≡_, refl}
 use mathlib.Core.List.{List}
@@ -13,14 +13,12 @@ use Rattle.calls.specs.Read.{readOf}
 use Rattle.calls.specs.Write.{writeOf}
 use Rattle.checkpoints.specs.Open.{openOf}
 use Rattle.checkpoints.specs.Create.{createOf}
-use Rattle.checkpoints.specs.Commit.{commitOf}
-use Rattle.checkpoints.specs.Abandon.{abandonOf}
+use Rattle.checkpoints.specs.Commit.{commitOf, abandonOf}
 use Rattle.survivors.specs.declared.lost.Lost.{Lost}
 use Rattle.restore.specs.declared.call.Call.{Call}
 use Rattle.restore.specs.declared.call.Call.the-variants.{Format, Check, Stretch, Read, Write, Evict, Open, Create, Commit, Abandon, Recover}
 use Rattle.recovery.specs.Recover.{recoverOf, RecoverMeets}
-use Rattle.restore.specs.Call.{planOf}
-use Rattle.restore.specs.CallCode.{CarriedOut}
+use Rattle.restore.specs.Call.{planOf, CarriedOut}
 
 -- ---- call by call
 

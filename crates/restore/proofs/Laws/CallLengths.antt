@@ -11,7 +11,7 @@ use Rattle.table.specs.Words.{currentOf}
 use Rattle.table.specs.Changes.{checkpointOf, keep}
 use Rattle.table.specs.Stores.{Store, entryStore, runs, valueTo}
 use Rattle.table.proofs.Laws.Stores.{runs-length}
-use Rattle.table.specs.View.{Entry, View, current}
+use Rattle.table.specs.View.{Entry, View, current, marksTo}
 use Rattle.table.specs.Answers.{carry}
 use Rattle.layout.specs.Format.{firstEntry, firstMark, firstEntries, formatStores, formatOf}
 use Rattle.layout.proofs.Laws.FormatTheorem.{format-accepted}
@@ -26,11 +26,8 @@ use Rattle.calls.specs.Write.{otherChange, otherChanges, otherStores, ownKeep, 
 use Rattle.homes.specs.Home.{arrivalOf, dropStores, arrivalChanges, takeoverStores, homeOf, homeStoresBy, homeStores}
 use Rattle.homes.specs.Evict.{dropped, sourceStores, movedTo, movedStores, evictStores}
 use Rattle.checkpoints.specs.Create.{hasSharer, partnerStores, createItem}
-use Rattle.checkpoints.specs.Checkpoint.{isPrecommit, entriesTo}
-use Rattle.checkpoints.specs.Closing.{commits, commitChange, abandonChange, closeChange}
-use Rattle.checkpoints.specs.Commit.{committingMark, committedMark, commitStores}
-use Rattle.checkpoints.specs.Abandon.{runningMark, abandonStores}
-use Rattle.table.specs.Pass.{marksTo}
+use Rattle.checkpoints.specs.Checkpoint.{isPrecommit, entriesTo, commits, commitChange, abandonChange, closeChange}
+use Rattle.checkpoints.specs.Commit.{committingMark, committedMark, commitStores, runningMark, abandonStores}
 use Rattle.restore.proofs.Laws.Lengths.{cond-short, then-short, changes-short, pass-short, marks-short, entries-short}
 
 -- ---- Format: "all 1 + N + 3 × N × M words"

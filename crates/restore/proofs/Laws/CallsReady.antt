@@ -18,7 +18,7 @@ use Rattle.calls.specs.Write.{writeOf}
 use Rattle.homes.specs.Evict.{dropped, evictOf}
 use Rattle.checkpoints.specs.Open.{creatingMark, openOf}
 use Rattle.checkpoints.specs.Create.{createOf}
-use Rattle.checkpoints.specs.Abandon.{runningMark, abandonOf}
+use Rattle.checkpoints.specs.Commit.{runningMark, abandonOf}
 use Rattle.homes.proofs.Laws.Kept.{test-live}
 use Rattle.homes.specs.Home.{homeOf}
 use Rattle.homes.proofs.Laws.Serves.{Serves, same-geometry}

@@ -20,8 +20,7 @@ use Rattle.calls.specs.Write.{writeOf}
 use Rattle.homes.specs.Evict.{evictOf}
 use Rattle.checkpoints.specs.Open.{openOf}
 use Rattle.checkpoints.specs.Create.{createOf}
-use Rattle.checkpoints.specs.Commit.{commitOf}
-use Rattle.checkpoints.specs.Abandon.{abandonOf}
+use Rattle.checkpoints.specs.Commit.{commitOf, abandonOf}
 use Rattle.survivors.specs.declared.lost.Lost.{Lost}
 use Rattle.restore.specs.declared.call.Call.{Call}
 use Rattle.restore.specs.declared.call.Call.the-variants.{Format, Check, Stretch, Read, Write, Evict, Open, Create, Commit, Abandon, Recover}

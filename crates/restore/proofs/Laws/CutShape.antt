@@ -28,10 +28,9 @@ use Rattle.checkpoints.proofs.Laws.OpenTheorem.{carried as open-carried}
 use Rattle.checkpoints.specs.Create.{createOf}
 use Rattle.checkpoints.proofs.Laws.CreateTheorem.{passed as create-passed, stores-are as create-stores}
 use Rattle.checkpoints.proofs.Laws.CreateSound.{create-off}
-use Rattle.checkpoints.specs.Commit.{commitOf}
+use Rattle.checkpoints.specs.Commit.{commitOf, abandonOf}
 use Rattle.checkpoints.proofs.Laws.CommitTheorem.{carried as commit-carried}
 use Rattle.checkpoints.proofs.Laws.CommitSound.{commit-off}
-use Rattle.checkpoints.specs.Abandon.{abandonOf}
 use Rattle.checkpoints.proofs.Laws.AbandonTheorem.{carried as abandon-carried}
 use Rattle.checkpoints.proofs.Laws.AbandonSound.{abandon-off}
 use Rattle.restore.specs.declared.call.Call.{Call}

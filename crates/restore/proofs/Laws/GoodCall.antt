@@ -25,14 +25,13 @@ use Rattle.layout.specs.Format.{formatMade, formatOf}
 use Rattle.layout.specs.Stretch.{checkedPlan, checkOf, stretchChecked, stretchOf}
 use Rattle.homes.specs.declared.admission.Admission.{Admission}
 use Rattle.homes.specs.declared.admission.Admission.the-variants.{Admitted, Turned}
-use Rattle.homes.specs.Plans.{planAdmitted, planChecked, planBy}
+use Rattle.homes.specs.Admission.{planAdmitted, planChecked, planBy}
 use Rattle.calls.specs.Write.{writeAdmission, writeStores, writeOf}
-use Rattle.checkpoints.specs.Commit.{commitAdmission, commitStores, commitOf}
+use Rattle.checkpoints.specs.Commit.{commitAdmission, commitStores, commitOf, abandonOf}
 use Rattle.calls.specs.Read.{readOf}
 use Rattle.homes.specs.Evict.{evictOf}
 use Rattle.checkpoints.specs.Open.{openOf}
 use Rattle.checkpoints.specs.Create.{createOf}
-use Rattle.checkpoints.specs.Abandon.{abandonOf}
 use Rattle.homes.proofs.Laws.Serves.{Serves}
 use Rattle.calls.proofs.Laws.ReadServes.{read-serves}
 use Rattle.homes.proofs.Laws.EvictServes.{evict-serves}

@@ -16,12 +16,11 @@ use Rattle.entries.specs.Check.{faultOf}
 use Rattle.homes.specs.declared.admission.Admission.the-variants.{Admitted, Turned}
 use Rattle.homes.specs.declared.places.Place.{Place}
 use Rattle.homes.specs.declared.places.Place.the-variants.{Current}
-use Rattle.homes.specs.Admission.{admissionOf}
+use Rattle.homes.specs.Admission.{admissionOf, planAdmitted, planChecked, planBy}
 use Rattle.homes.proofs.Laws.Admission.{admission-tells}
 use Rattle.homes.specs.Places.{codeIn}
 use Rattle.homes.specs.Home.{fits, noHome}
 use Rattle.homes.proofs.Laws.HomeLaws.{no-home-none, none-no-home}
-use Rattle.homes.specs.Plans.{planAdmitted, planChecked, planBy}
 use Rattle.homes.proofs.Laws.Plans.{plan-admitted}
 use Rattle.homes.specs.Evict.{dropped, placeAdmission, evictStores, evictOf}
 use Rattle.entries.specs.Dirty.{ownerOf, dirtyItem}

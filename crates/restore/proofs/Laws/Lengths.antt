@@ -7,10 +7,9 @@ use native.Mathlib.Omega.{arith}
 use lib.ListN.{length, set, length-append, length-map}
 use Rattle.table.specs.declared.geometry.Geometry.{Geometry}
 use Rattle.table.specs.Stores.{Change, Store, entryStore, placeOf, wordOf, after, runs}
-use Rattle.table.specs.View.{Entry, View, live, updates}
-use Rattle.table.specs.Pass.{pass, markTo, marksTo}
+use Rattle.table.specs.View.{Entry, View, live, updates, pass, markTo, marksTo}
 use Rattle.checkpoints.specs.Checkpoint.{liveChanges, entriesBefore, entriesTo}
-use Rattle.recovery.specs.Partners.{staged}
+use Rattle.recovery.specs.Numbering.{staged}
 
 -- ---- lists
 

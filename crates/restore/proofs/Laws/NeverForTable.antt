@@ -19,8 +19,7 @@ use Rattle.layout.specs.Stretch.{checkedPlan, checkOf, stretchChecked, stretchO
 use Rattle.homes.specs.declared.admission.Admission.{Admission}
 use Rattle.homes.specs.declared.admission.Admission.the-variants.{Admitted, Turned}
 use Rattle.homes.specs.declared.places.Place.{Place}
-use Rattle.homes.specs.Plans.{planAdmitted, planChecked, planBy}
-use Rattle.homes.specs.Admission.{admissionOf, frameFull, frameAdmission}
+use Rattle.homes.specs.Admission.{planAdmitted, planChecked, planBy, admissionOf, frameFull, frameAdmission}
 use Rattle.homes.specs.Places.{codeIn}
 use Rattle.homes.specs.Home.{noHome}
 use Rattle.homes.specs.Evict.{dropped, placeAdmission, evictAdmission, evictStores}
@@ -28,8 +27,7 @@ use Rattle.entries.specs.Dirty.{noneDirty, dirtyItem}
 use Rattle.checkpoints.specs.Checkpoint.{commonMark, isOpen, openAdmission}
 use Rattle.checkpoints.specs.Open.{startAdmission, openStores}
 use Rattle.checkpoints.specs.Create.{createStores, noPartner, createPlan}
-use Rattle.checkpoints.specs.Commit.{createdAdmission, commitAdmission, commitStores}
-use Rattle.checkpoints.specs.Abandon.{abandonStores}
+use Rattle.checkpoints.specs.Commit.{createdAdmission, commitAdmission, commitStores, abandonStores}
 use Rattle.calls.specs.Read.{readAdmission, readValue, readStores}
 use Rattle.calls.specs.Write.{writeAdmission, writeStores}
 use Rattle.survivors.specs.declared.lost.Lost.{Lost}

@@ -17,7 +17,7 @@ use Rattle.homes.proofs.Laws.Kept.{Kept}
 use Rattle.homes.proofs.Laws.KeptOn.{kept-begins}
 use Rattle.homes.specs.declared.admission.Admission.{Admission}
 use Rattle.homes.specs.declared.admission.Admission.the-variants.{Admitted, Turned}
-use Rattle.homes.specs.Plans.{planAdmitted}
+use Rattle.homes.specs.Admission.{planAdmitted}
 use Rattle.survivors.specs.declared.lost.Lost.{Lost}
 use Rattle.survivors.specs.Survivors.{survivors}
 use Rattle.recovery.specs.Recover.{recoverStores, recoverAdmission, recoverChecked, recoverOf}

@@ -13,12 +13,10 @@ use Rattle.table.specs.Stores.{Store}
 use Rattle.table.specs.View.{Entry, View, live, current, kept, updates}
 use Rattle.survivors.specs.declared.lost.Lost.{Lost}
 use Rattle.survivors.specs.declared.lost.Lost.the-variants.{Nobody, Node}
-use Rattle.survivors.specs.Survivors.{lostStores, survivors}
+use Rattle.survivors.specs.Survivors.{lostStores, survivors, largestNumber, closingStores}
 use Rattle.survivors.specs.Direction.{forwardIn}
-use Rattle.recovery.specs.Rolling.{bringBack, settled, rollChange, rollStores}
-use Rattle.recovery.specs.Numbering.{numberAt, numberChange, numberStores}
-use Rattle.recovery.specs.Partners.{single, holderOf, partnerOf, partnerChanges, partnerFrom, partnerStores, partnersStores}
-use Rattle.survivors.specs.ClosingMarks.{largestNumber, closingStores}
+use Rattle.recovery.specs.Sides.{bringBack, settled, rollChange, rollStores}
+use Rattle.recovery.specs.Numbering.{numberAt, numberChange, numberStores, single, holderOf, partnerOf, partnerChanges, partnerFrom, partnerStores, partnersStores}
 use Rattle.recovery.specs.Recover.{followed, survivorStores, recoverStores}
 use Rattle.restore.proofs.Laws.Lengths.{cond-short, then-short, pass-short, staged-short, marks-short, entries-short}
 

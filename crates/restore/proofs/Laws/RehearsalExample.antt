@@ -9,9 +9,8 @@ use Rattle.survivors.specs.declared.lost.Lost.the-variants.{Node}
 use Rattle.restore.specs.declared.call.Call.the-variants.{Format, Write, Open, Create, Commit}
 use Rattle.restore.specs.Memory.{savedIn}
 use Rattle.restore.specs.Run.{commitsFrom, memoryFrom, Formatted, tableBy, run}
-use Rattle.restore.specs.Rehearsal.{callAt, stepsTo, nodeWordAt, putTo, hitNode, hitSized, hitBy, Script, wholeCalls, Demanded}
+use Rattle.restore.specs.Rehearsal.{callAt, stepsTo, nodeWordAt, putTo, hitNode, hitSized, hitBy, Script, wholeCalls, Demanded, strike, tooFewLeft}
 use Rattle.restore.specs.Operations.{callBy}
-use Rattle.restore.specs.Rehearsed.{strike, tooFewLeft}
 use Rattle.restore.proofs.Laws.RehearsalHit.{hit-struck}
 use Rattle.restore.specs.Demand3.{memory}
 use Rattle.counting.specs.Counting.{every, sum, count, first, firstOr, exists}
@@ -19,21 +18,18 @@ use Rattle.counting.specs.Values.{valuesOf}
 use Rattle.table.specs.Geometry.{geometryOf}
 use Rattle.table.specs.Changes.{changeOf}
 use Rattle.table.specs.Stores.{runs, after}
-use Rattle.table.specs.View.{view}
-use Rattle.table.specs.Pass.{markTo, marksTo}
+use Rattle.table.specs.View.{view, markTo, marksTo}
 use Rattle.table.specs.Copies.{backBy}
 use Rattle.layout.specs.Format.{firstEntries, formatStores, formatMade}
 use Rattle.entries.specs.Frames.{framesIn, framesAt, used, framesFit}
-use Rattle.entries.specs.Items.{itemTest}
+use Rattle.entries.specs.Tally.{itemTest}
 use Rattle.entries.specs.Sound.{marksForm, phasesOf, pointsOf, statesForm, nodeSound, nodesSound, itemSound, itemsSound, sound}
 use Rattle.entries.specs.Check.{lengthOf, sizesOf, soundOf, faultOf}
-use Rattle.homes.specs.Plans.{planAdmitted, planChecked, planBy}
-use Rattle.homes.specs.Admission.{admissionOf, frameFull, frameAdmission}
+use Rattle.homes.specs.Admission.{planAdmitted, planChecked, planBy, admissionOf, frameFull, frameAdmission}
 use Rattle.homes.specs.Places.{placeBy}
 use Rattle.calls.specs.Transitions.{changeTo}
 use Rattle.entries.specs.Dirty.{ownsAt, ownerOf, dirty, dirtyItem}
-use Rattle.checkpoints.specs.Checkpoint.{commonMark, isOpen, openAdmission, liveChanges, entriesBefore}
-use Rattle.checkpoints.specs.Closing.{commitChange, closeChange}
+use Rattle.checkpoints.specs.Checkpoint.{commonMark, isOpen, openAdmission, liveChanges, entriesBefore, commitChange, closeChange}
 use Rattle.homes.specs.Home.{sharedAt, sharedItem, hasRoom, placeFits, fits, nodeAfter, fitsAfter, passedOver, homeOf, droppedItem, currentLeft, arrivalOf, dropStores, arrivalChanges, homeStoresBy, homeStores}
 use Rattle.calls.specs.Read.{servesAt, serverOf, fetchFrom, readStores, readValue}
 use Rattle.calls.specs.Write.{otherChanges, otherStores, ownKeep, keptAfter, ownChanges, writeStores}
@@ -41,13 +37,10 @@ use Rattle.homes.specs.Evict.{sourceStores, movedTo, evictStores, placeAdmissio
 use Rattle.checkpoints.specs.Open.{startAdmission}
 use Rattle.checkpoints.specs.Create.{sharesAt, sharerOf, partnerStores as createdPartner, createItem, noPartner, createPlan}
 use Rattle.checkpoints.specs.Commit.{commitStores, createdAdmission}
-use Rattle.survivors.specs.Survivors.{lostBy, survivorCount, tooFewWith, tooFew}
-use Rattle.recovery.specs.Sides.{copiesOn, itemFits, itemsFit}
+use Rattle.survivors.specs.Survivors.{lostBy, survivorCount, tooFewWith, tooFew, largest, largestNumber, closingStores}
+use Rattle.recovery.specs.Sides.{copiesOn, itemFits, itemsFit, bringBack, settled, rollChange, rollStores}
 use Rattle.survivors.specs.Direction.{forwardIn}
-use Rattle.recovery.specs.Rolling.{bringBack, settled, rollChange, rollStores}
-use Rattle.recovery.specs.Numbering.{holders, numberAfter, numberChange, numberStores}
-use Rattle.recovery.specs.Partners.{single, holderOf, takes, takesAfter, partnerOf, partnerChanges, partnerFrom, partnerStores, staged, partnersStores}
-use Rattle.survivors.specs.ClosingMarks.{largest, largestNumber, closingStores}
+use Rattle.recovery.specs.Numbering.{holders, numberAfter, numberChange, numberStores, single, holderOf, takes, takesAfter, partnerOf, partnerChanges, partnerFrom, partnerStores, staged, partnersStores}
 use Rattle.recovery.specs.Recover.{followed, survivorStores, recoverStores, survivorsFormed, recoverAdmission, recoverChecked, recoverOf}
 use Rattle.restore.specs.Call.{planOf}
 

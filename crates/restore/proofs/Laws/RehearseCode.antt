@@ -28,8 +28,7 @@ use Rattle.restore.specs.declared.operations.Operation.{Operation}
 use Rattle.restore.specs.Operations.{callBy}
 use Rattle.recovery.specs.Recover.{recoverOf, scratchAfter, RecoverMeets}
 use Rattle.recovery.proofs.Laws.RecoverPlan.{recover-carries, carries-recover}
-use Rattle.restore.specs.Call.{planOf, accepted}
-use Rattle.restore.specs.CallCode.{scratchBy, CarriedOut}
+use Rattle.restore.specs.Call.{planOf, accepted, scratchBy, CarriedOut}
 use Rattle.restore.specs.Run.{Step, storeCount, wholeTable, planAt, tableBy, run}
 use Rattle.restore.proofs.Laws.RunPoints.{run-one}
 use Rattle.restore.specs.Strike.{Strike, brokenOff}
@@ -37,9 +36,8 @@ use Rattle.restore.specs.Strike as strikes
 use Rattle.restore.proofs.Laws.WholeAt.{whole-at, whole-count}
 use Rattle.restore.specs.Demand3.{Restored}
 use Rattle.restore.proofs.Laws.Demand3Theorem.{demand3}
-use Rattle.restore.specs.Rehearsal.{callOrCheck, callAt, callCount, stepsTo, nodeWordAt, nodeWords, putTo, hitNode, hitSized, hitBy, attemptsAt, brokenAt, scratchRun, scratchBroken, scratchBrokenAt, Script, wholeCalls, next, before, struck, attempted, lastRecovery, recovered, Demanded}
+use Rattle.restore.specs.Rehearsal.{callOrCheck, callAt, callCount, stepsTo, nodeWordAt, nodeWords, putTo, hitNode, hitSized, hitBy, attemptsAt, brokenAt, scratchRun, scratchBroken, scratchBrokenAt, Script, wholeCalls, next, before, struck, attempted, lastRecovery, recovered, Demanded, strike, tooFewLeft, Restores, Rehearsed}
 use Rattle.restore.specs.code.Rehearsing.{RanCalls, Struck, BrokenOff}
-use Rattle.restore.specs.Rehearsed.{strike, tooFewLeft, Restores, Rehearsed}
 use Rattle.restore.proofs.Laws.RehearsalHit.{hit-struck}
 
 -- ---- a call of its words

@@ -25,7 +25,7 @@ use Rattle.entries.proofs.Laws.CheckFacts.{sizes-facts}
 use Rattle.entries.proofs.Laws.Unread.{over, Agrees, Alike, alike-fault}
 use Rattle.layout.specs.Format.{formatMade}
 use Rattle.layout.specs.Stretch.{checkedPlan, stretchChecked}
-use Rattle.homes.specs.Plans.{planAdmitted}
+use Rattle.homes.specs.Admission.{planAdmitted}
 use Rattle.homes.proofs.Laws.Unread.{evict-alike}
 use Rattle.calls.proofs.Laws.Unread.{read-alike, write-alike}
 use Rattle.checkpoints.proofs.Laws.Unread.{open-alike, create-alike, commit-alike, abandon-alike}

@@ -15,15 +15,14 @@ use Rattle.entries.proofs.Laws.CheckFacts.{sizes-facts, accepted-facts}
 use Rattle.layout.specs.Format.{formatOf}
 use Rattle.layout.proofs.Laws.FormatTheorem.{format-accepted}
 use Rattle.homes.specs.declared.admission.Admission.{Admission}
-use Rattle.homes.specs.Plans.{planBy}
+use Rattle.homes.specs.Admission.{planBy}
 use Rattle.homes.proofs.Laws.Plans.{plan-acted, acted-carried}
 use Rattle.calls.specs.Read.{readAdmission, readValue, readStores}
 use Rattle.calls.specs.Write.{writeAdmission, writeStores}
 use Rattle.homes.specs.Evict.{evictAdmission, evictStores}
 use Rattle.checkpoints.specs.Open.{startAdmission, openStores, creatingMark}
 use Rattle.checkpoints.specs.Create.{noPartner, createStores, createPlan, createOf}
-use Rattle.checkpoints.specs.Commit.{commitAdmission, commitStores}
-use Rattle.checkpoints.specs.Abandon.{abandonStores}
+use Rattle.checkpoints.specs.Commit.{commitAdmission, commitStores, abandonStores}
 use Rattle.entries.specs.Dirty.{ownerOf, dirtyItem, noneDirty}
 use Rattle.checkpoints.specs.Checkpoint.{openAdmission}
 use Rattle.survivors.specs.declared.lost.Lost.{Lost}

@@ -6,8 +6,7 @@ use lib.ListN.{length}
 use Rattle.table.specs.Answers.{tableOf}
 use Rattle.survivors.specs.declared.lost.Lost.{Lost}
 use Rattle.restore.specs.declared.call.Call.{Call}
-use Rattle.restore.specs.Call.{planOf}
-use Rattle.restore.specs.CallCode.{scratchBy}
+use Rattle.restore.specs.Call.{planOf, scratchBy}
 use Rattle.restore.specs.Run.{run}
 use Rattle.restore.specs.Rehearsal.{callCount, stepsTo, hitBy, brokenAt, scratchRun, scratchBrokenAt}
 

@@ -1,4 +1,4 @@
--- The laws of `specs/Records.antt`.
+-- Laws of `specs/Steps.antt`: the bytes of a record.
 use Prim.Native.Nat.{ℕ, _+_, _-_, _<_, _≤_}
 use mathlib.Core.Path.{_≡_, refl, sym, ap, _∙_}
 use mathlib.Core.List.{List}
@@ -9,8 +9,7 @@ use lib.Seq.{getD-drop}
 use borrow.Author.Tests.{lt-ltb, le-ltb}
 use Rattle.steps.specs.declared.decode.Step.{Step}
 use Rattle.steps.specs.declared.decode.Step.the-variants.{Malformed}
-use Rattle.steps.specs.Steps.{stepOf}
-use Rattle.steps.specs.Records.{wordAt, recordOf}
+use Rattle.steps.specs.Steps.{stepOf, wordAt, recordOf}
 
 -- a law for each way of the code
 module _ (bytes : List ℕ) (at : ℕ) where

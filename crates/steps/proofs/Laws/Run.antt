@@ -8,10 +8,9 @@ use lib.ListN.{getD, List·getD-append, length, take, drop, length-append, lengt
 use lib.Seq.{length-take-le, take-all, take-append-seam, drop-drop, drop-append-le, drop-append-seam, drop-length, drop-nil}
 use Rattle.table.specs.declared.answers.Numbers.{Numbers}
 use Rattle.steps.specs.declared.decode.Step.{Step}
-use Rattle.steps.specs.Records.{wordAt, recordOf}
-use Rattle.steps.specs.Serving.{Quay, served, numbersBy, StepServed}
+use Rattle.steps.specs.Steps.{wordAt, recordOf}
+use Rattle.steps.specs.Run.{Quay, served, numbersBy, StepServed, recordCount, stepsTo, stepsIn, linesBy, servedAll, linesOf, leftBy, start, quayOf, RecordsRun}
 use Rattle.steps.specs.Lines.{lineBytes, BytesPut}
-use Rattle.steps.specs.Run.{recordCount, stepsTo, stepsIn, linesBy, servedAll, linesOf, leftBy, start, quayOf, RecordsRun}
 use Rattle.steps.specs.code.RunCode.{PutAt, StepRun, RunTo}
 use Rattle.steps.proofs.Laws.Lines.{line-short}
 

@@ -8,16 +8,15 @@ use lib.ListN.{length}
 use Rattle.table.specs.declared.answers.Answer.{Answer}
 use Rattle.table.specs.declared.answers.Answer.the-variants.{Done}
 use Rattle.table.specs.declared.answers.Numbers.{Numbers}
-use Rattle.table.specs.Answers.{Plan, refuse, nothingLeft, carry, numbersOf, answerOf, numbersAt}
+use Rattle.table.specs.Answers.{malformedNumbers, Plan, refuse, nothingLeft, carry, numbersOf, answerOf, numbersAt}
 use Rattle.restore.specs.declared.call.Call.{Call}
-use Rattle.restore.specs.Call.{planOf, accepted}
-use Rattle.restore.specs.CallCode.{CarriedOut}
+use Rattle.restore.specs.Call.{planOf, accepted, CarriedOut}
 use Rattle.restore.specs.Run.{isFormat, storeCount, wholeTable}
 use Rattle.restore.proofs.Laws.WholeAt.{whole-at, whole-count}
 use Rattle.steps.specs.declared.decode.Step.the-variants.{Asked, Malformed}
 use Rattle.steps.specs.declared.decode.Step.{Step}
 use Rattle.steps.specs.declared.serve.Progress.{Progress}
-use Rattle.steps.specs.Serving.{Quay, counted, numbersBy, served, StepServed}
+use Rattle.steps.specs.Run.{Quay, counted, numbersBy, served, StepServed}
 use Rattle.steps.specs.code.ServingCode.{isDone, CarriedLent}
 
 -- the limit that the code gives, which no list reaches
@@ -89,5 +88,5 @@ step-served e o = rw e o
 
 pub malformed-served :
     {step : Step} (t s : List ℕ) (p : Progress) {p′ : Progress} → step ≡ Malformed → p′ ≡ counted p (p .formatted)
-    → StepServed (record { table = t; scratch = s; progress = p }) step (record { table = t; scratch = s; progress = p′ }) (record { answer = 18; value = 0; stores = 0 })
+    → StepServed (record { table = t; scratch = s; progress = p }) step (record { table = t; scratch = s; progress = p′ }) malformedNumbers
 malformed-served t s p e c = rw (e, c) (record { state = refl; line = refl })

@@ -10,8 +10,7 @@ use Rattle.steps.specs.declared.decode.Step.the-variants.{Asked, Malform
 use Rattle.homes.specs.Places.{placeBy}
 use Rattle.survivors.specs.Survivors.{lostBy}
 use Rattle.restore.specs.Operations.{callBy}
-use Rattle.steps.specs.Steps.{unusedZero, formatStep, callStep, stepOf}
-use Rattle.steps.specs.Records.{recordOf}
+use Rattle.steps.specs.Steps.{unusedZero, formatStep, callStep, stepOf, recordOf}
 
 -- the first word of operation o, node n, item b, place p
 abbrev word : (o n b p : ℕ) → ℕ

@@ -4,9 +4,8 @@ use mathlib.Core.Path.{_≡_}
 use mathlib.Core.List.{List, _++_}
 use lib.ListN.{length, take, drop}
 use Rattle.steps.specs.declared.decode.Step.{Step}
-use Rattle.steps.specs.Serving.{Quay, numbersBy, served}
+use Rattle.steps.specs.Run.{Quay, numbersBy, served, stepsIn, linesBy, servedAll, linesOf, leftBy}
 use Rattle.steps.specs.Lines.{lineBytes}
-use Rattle.steps.specs.Run.{stepsIn, linesBy, servedAll, linesOf, leftBy}
 
 -- bytes put at a place: what is before them and after them stays; the answer is the place after them
 pub record PutAt (out : List ℕ) (at : ℕ) (bytes out′ : List ℕ) (r : ℕ) : Type 0 where

@@ -8,8 +8,7 @@ use Rattle.table.specs.declared.answers.Answer.{Answer}
 use Rattle.table.specs.declared.answers.Answer.the-variants.{Done, NothingLeft, Refused}
 use Rattle.table.specs.Answers.{Plan, answerOf}
 use Rattle.restore.specs.declared.call.Call.{Call}
-use Rattle.restore.specs.Call.{planOf}
-use Rattle.restore.specs.CallCode.{scratchBy}
+use Rattle.restore.specs.Call.{planOf, scratchBy}
 use Rattle.restore.specs.Run.{storeCount, wholeTable}
 
 abbrev pub isDone : Answer → Bool

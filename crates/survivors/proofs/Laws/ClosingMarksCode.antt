@@ -13,12 +13,10 @@ use Rattle.table.specs.Geometry.{markAt}
 use Rattle.table.specs.Words.{numberOf, markWord}
 use Rattle.table.specs.Stores.{Stored, markStore, placeOf, runs}
 use Rattle.table.proofs.Laws.Stores.{All, none, more, all-runs, after-off, loop-turns, stored-none}
-use Rattle.table.specs.View.{View, view, live}
-use Rattle.table.specs.Pass.{markTo, marksTo}
+use Rattle.table.specs.View.{View, view, live, markTo, marksTo}
 use Rattle.survivors.specs.declared.lost.Lost.{Lost}
 use Rattle.survivors.specs.declared.lost.Lost.the-variants.{Nobody, Node}
-use Rattle.survivors.specs.Survivors.{lostStores, survivors, lostOutside}
-use Rattle.survivors.specs.ClosingMarks.{largest, largestNumber, closingStores}
+use Rattle.survivors.specs.Survivors.{lostStores, survivors, lostOutside, largest, largestNumber, closingStores}
 use Rattle.survivors.proofs.Laws.SurvivorsCode.{survivor-marks}
 
 -- ---- the largest number

@@ -14,10 +14,9 @@ use Rattle.table.specs.declared.geometry.Geometry.{Geometry}
 use Rattle.table.specs.Geometry.{wordsOf}
 use Rattle.table.specs.Stores.{markStore, Stored, runs}
 use Rattle.table.proofs.Laws.Stores.{runs-ext, loop-turns}
-use Rattle.table.specs.View.{View, view, live, update}
+use Rattle.table.specs.View.{View, view, live, update, markTo, marksTo}
 use Rattle.table.proofs.Laws.Puts.{put₁-case}
 use Rattle.table.proofs.Laws.Via.{Via, done, step, via-runs, via-cut}
-use Rattle.table.specs.Pass.{markTo, marksTo}
 
 -- the same words, said otherwise
 pub marks-as :

@@ -1,4 +1,4 @@
--- The laws of `specs/Pass.antt`.
+-- Laws of `specs/View.antt`: a pass over entries.
 use Prim.Native.Nat.{ℕ, suc, _+_, _*_, _/_, _%_, _<_}
 use mathlib.Core.Path.{_≡_, refl, sym, ap, ap₂, _∙_}
 use mathlib.Core.List.{List, [], _∷_, map}
@@ -8,10 +8,9 @@ use native.Mathlib.Nat.{mod-lt, div-lt-iff-lt-mul, div-add-mod'}
 use Rattle.counting.proofs.Laws.Counting.{below}
 use Rattle.table.specs.declared.geometry.Geometry.{Geometry}
 use Rattle.table.specs.Stores.{Change, entryStore}
-use Rattle.table.specs.View.{Entry, View, changed, update}
+use Rattle.table.specs.View.{Entry, View, changed, update, pass}
 use Rattle.table.proofs.Laws.Puts.{put₂-same, put₂-other}
 use Rattle.table.proofs.Laws.Via.{Via, done, step, via-weaken, via-runs}
-use Rattle.table.specs.Pass.{pass}
 
 -- one entry: p before each change and at the end, where z holds too
 pub data Steps (p z : Entry → Type 0) : Entry → List Change → Type 0 where

@@ -7,9 +7,8 @@ use lib.ListN.{length}
 use Rattle.table.specs.declared.geometry.Geometry.{Geometry}
 use Rattle.table.specs.Geometry.{wordsOf}
 use Rattle.table.specs.Stores.{Change, Stored}
-use Rattle.table.specs.View.{Entry, view, changed}
+use Rattle.table.specs.View.{Entry, view, changed, pass}
 use Rattle.table.proofs.Laws.Via.{via-cut}
-use Rattle.table.specs.Pass.{pass}
 use Rattle.table.proofs.Laws.Pass.{Steps, last, next, Each, pass-via}
 
 any-steps : {p z : Entry → Type 0} → ((e : Entry) → p e) → ((e : Entry) → z e) → (e : Entry) (cs : List Change) → Steps p z e cs

@@ -12,8 +12,7 @@ use Rattle.table.specs.declared.geometry.Geometry.{Geometry}
 use Rattle.table.specs.Geometry.{wordsOf}
 use Rattle.table.specs.Stores.{Change, Store, entryStore, Stored, runs}
 use Rattle.table.proofs.Laws.Stores.{runs-ext, runs-add, stored-then, stored-as, loop-starts, loop-turns}
-use Rattle.table.specs.View.{View, view}
-use Rattle.table.specs.Pass.{pass}
+use Rattle.table.specs.View.{View, view, pass}
 use Rattle.table.proofs.Laws.Pass.{grid-within, grid-once}
 use Rattle.table.proofs.Laws.PassLeaves.{pass-marks, pass-entry}
 

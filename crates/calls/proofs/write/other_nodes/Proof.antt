@@ -2,8 +2,7 @@
 use Prim.Native.Nat.{_≤_, _-_}
 use Rattle.table.specs.Stores.{Stored}
 use Rattle.table.proofs.Laws.Stores.{loop-starts, loop-ends}
-use Rattle.table.specs.View.{view}
-use Rattle.table.specs.Pass.{pass}
+use Rattle.table.specs.View.{view, pass}
 use Rattle.calls.specs.Write.{otherChanges, otherStores}
 use Rattle.calls.proofs.Laws.WriteCode.{other-turn}
 use borrow.Author.Needs.{needs}

@@ -3,9 +3,8 @@ use Prim.Native.Nat.{_≤_, _-_}
 use borrow.Author.Needs.{needs}
 use Rattle.table.specs.Stores.{Stored}
 use Rattle.table.specs.View.{view}
-use Rattle.checkpoints.specs.Checkpoint.{entriesBefore}
+use Rattle.checkpoints.specs.Checkpoint.{entriesBefore, closeChange}
 use Rattle.checkpoints.proofs.Laws.Checkpoint.{entries-start, entries-turn, entries-end}
-use Rattle.checkpoints.specs.Closing.{closeChange}
 use Rattle.checkpoints.proofs.checkpoint.close_entries.Statement.{statement}
 use Rattle.checkpoints.proofs.checkpoint.close_entries.Tie as tie
 

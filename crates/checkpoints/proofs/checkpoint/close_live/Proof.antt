@@ -6,10 +6,9 @@ use Rattle.table.specs.Geometry.{entryAt}
 use Rattle.table.proofs.Laws.Geometry.{entry-within}
 use Rattle.table.specs.Stores.{Stored}
 use Rattle.table.proofs.Laws.Stores.{loop-starts, loop-ends}
-use Rattle.table.specs.View.{view}
-use Rattle.table.specs.Pass.{pass}
+use Rattle.table.specs.View.{view, pass}
 use Rattle.checkpoints.proofs.Laws.Checkpoint.{live-turn}
-use Rattle.checkpoints.specs.Closing.{closeChange}
+use Rattle.checkpoints.specs.Checkpoint.{closeChange}
 use borrow.Author.Needs.{needs}
 use Rattle.checkpoints.proofs.checkpoint.close_live.Statement.{statement}
 use Rattle.checkpoints.proofs.checkpoint.close_live.Tie as tie

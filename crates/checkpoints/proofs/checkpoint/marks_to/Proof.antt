@@ -5,8 +5,7 @@ use lib.ListN.{length}
 use Rattle.table.specs.Geometry.{wordsOf}
 use Rattle.table.specs.Stores.{Stored, runs}
 use Rattle.table.proofs.Laws.Stores.{loop-starts, loop-ends}
-use Rattle.table.specs.View.{view}
-use Rattle.table.specs.Pass.{markTo, marksTo}
+use Rattle.table.specs.View.{view, markTo, marksTo}
 use Rattle.table.proofs.Laws.MarksPass.{marks-turn}
 use borrow.Author.Needs.{needs}
 use Rattle.checkpoints.proofs.checkpoint.marks_to.Statement.{statement}

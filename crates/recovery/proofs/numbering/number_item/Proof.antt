@@ -3,8 +3,7 @@ use Prim.Native.Nat.{_≤_, _<_, _-_}
 use native.Mathlib.Omega.{arith}
 use Rattle.table.specs.Stores.{Stored}
 use Rattle.table.proofs.Laws.Stores.{loop-starts, loop-ends}
-use Rattle.table.specs.View.{view}
-use Rattle.table.specs.Pass.{pass}
+use Rattle.table.specs.View.{view, pass}
 use Rattle.survivors.specs.Survivors.{survivors}
 use Rattle.recovery.specs.Numbering.{numberChange}
 use Rattle.recovery.specs.code.NumberingCode.{HoldersTo}

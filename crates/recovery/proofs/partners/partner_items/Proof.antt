@@ -1,6 +1,6 @@
 -- `partner_items` meets its contract: the items before `item` have had their turns. Assumes nothing.
 use Prim.Native.Nat.{_≤_, _-_}
-use Rattle.recovery.specs.Partners.{partnerStores, staged}
+use Rattle.recovery.specs.Numbering.{partnerStores, staged}
 use Rattle.recovery.specs.code.PartnersCode.{Turned}
 use Rattle.recovery.proofs.Laws.PartnersCode.{items-start, items-turn, items-end}
 use Rattle.recovery.proofs.Laws.PartnersSkip.{turn-ready}

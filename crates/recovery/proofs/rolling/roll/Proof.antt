@@ -7,7 +7,7 @@ use Rattle.table.specs.View.{view}
 use Rattle.checkpoints.specs.Checkpoint.{entriesBefore}
 use Rattle.checkpoints.proofs.Laws.Checkpoint.{entries-start}
 use Rattle.survivors.specs.Survivors.{survivors}
-use Rattle.recovery.specs.Rolling.{rollChange}
+use Rattle.recovery.specs.Sides.{rollChange}
 use Rattle.recovery.proofs.Laws.RollingCode.{survivor-node, rolled-all}
 use borrow.Author.Needs.{needs}
 use Rattle.recovery.proofs.rolling.roll.Statement.{statement}

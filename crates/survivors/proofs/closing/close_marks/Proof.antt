@@ -2,8 +2,7 @@
 use Prim.Native.Nat.{_≤_, _-_}
 use Rattle.table.specs.Stores.{Stored, runs}
 use Rattle.table.proofs.Laws.Stores.{loop-starts, loop-ends}
-use Rattle.table.specs.View.{view}
-use Rattle.table.specs.Pass.{markTo, marksTo}
+use Rattle.table.specs.View.{view, markTo, marksTo}
 use Rattle.survivors.specs.Survivors.{survivors}
 use Rattle.survivors.proofs.Laws.ClosingMarksCode.{survivor-mark-turn}
 use borrow.Author.Needs.{needs}

@@ -3,8 +3,7 @@ use Prim.Native.Nat.{_≤_, _-_}
 use mathlib.Core.Path.{_≡_, ap, _∙_}
 use Rattle.table.specs.Words.{numberOf}
 use Rattle.table.specs.View.{view}
-use Rattle.survivors.specs.Survivors.{survivors}
-use Rattle.survivors.specs.ClosingMarks.{largest}
+use Rattle.survivors.specs.Survivors.{survivors, largest}
 use Rattle.survivors.proofs.Laws.ClosingMarksCode.{largest-none, largest-next, largest-ends}
 use borrow.Author.Needs.{needs}
 use Rattle.survivors.proofs.closing.largest_number.Statement.{statement}

@@ -2,10 +2,9 @@
 use Prim.Native.Nat.{_≤_, _-_}
 use mathlib.Core.Path.{_≡_}
 use Rattle.counting.specs.Counting.{count}
-use Rattle.counting.proofs.Laws.Counting.{count-none}
+use Rattle.counting.proofs.Laws.Counting.{count-none, count-turn}
 use Rattle.table.specs.View.{view, live}
 use Rattle.survivors.specs.Survivors.{survivors}
-use Rattle.counting.proofs.Laws.Counting.{count-turn}
 use Rattle.survivors.proofs.Laws.SurvivorsCode.{count-end}
 use borrow.Author.Needs.{needs}
 use Rattle.survivors.proofs.nodes.survivor_count.Statement.{statement}
