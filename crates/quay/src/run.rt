@@ -1,4 +1,5 @@
-// The records of a file, chunk after chunk: `lines-then` of crate steps says that their lines are those of the whole file.
+// The records of a file, chunk after chunk. `lines-then` (crate steps, proofs/Laws/Run.antt) says that the lines of the
+// chunks, one after the other, are those of the whole file.
 use libc::STDOUT_FILENO;
 use steps::run;
 use steps::serve::Progress;

@@ -1,4 +1,5 @@
--- The calls by number. "Operations: 0 format .., 1 read, 2 write, 3 evict, 4 open, 5 create, 6 commit, 7 abandon, 8 recover."
+-- The calls by number. "Operations: 0 format .., 1 read, 2 write, 3 evict, 4 open, 5 create, 6 commit, 7 abandon,
+-- 8 recover."
 use Prim.Native.Nat.{ℕ}
 use mathlib.Core.Bool.{cond}
 use lib.Dec.{eqb}
@@ -8,8 +9,8 @@ use Rattle.restore.specs.declared.call.Call.the-variants.{Format, Check,
 use Rattle.restore.specs.declared.operations.Operation.{Operation}
 use Rattle.restore.specs.declared.operations.Operation.the-variants.{Known, Unknown}
 
--- an operation, three arguments and a flag: "place 1 (0 current, 1 kept; in Recover 1 means none lost)". Check and Stretch, which quay does not
--- have, are 16 and 17: more than the 4 bits of a record hold.
+-- an operation, three arguments and a flag: "place 1 (0 current, 1 kept; in Recover 1 means none lost)". Check and
+-- Stretch, which quay does not have, are 16 and 17: more than the 4 bits of a record hold.
 unfoldable pub callBy : ℕ → ℕ → ℕ → ℕ → ℕ → Operation
 callBy operation x y z flag =
     cond (eqb operation 0) (Known (Format x y z))

@@ -99,7 +99,8 @@ scratchRun t (x ∷ xs) s = scratchRun (tableBy t x) xs (scratchBy (x .call) (pl
 unfoldable pub scratchBroken : {least : ℕ} → Lost → List (Attempt least) → List ℕ → List ℕ → List ℕ
 scratchBroken lost [] t s = s
 scratchBroken lost (a ∷ rest) t s =
-    scratchBroken lost rest (tableOf (recoverOf t lost (a .scratch)) (a .limit) t) (scratchAfter (recoverOf t lost (a .scratch)) s)
+    let plan = recoverOf t lost (a .scratch) in
+    scratchBroken lost rest (tableOf plan (a .limit) t) (scratchAfter plan s)
 
 abbrev pub scratchBrokenAt : Lost → ℕ → List ℕ → List ℕ → List ℕ → List ℕ
 scratchBrokenAt lost scratch limits t s = scratchBroken lost (attemptsAt {least = 0} scratch (omega arith) limits) t s
@@ -189,8 +190,8 @@ module _ (t₀ : List ℕ) (p : Script) where
     pub answer : r ≡ Done 0 (storeCount (strikes.lastRecovery (strike t₀ p d hit)))
     pub restored : Restored t₀ (d .formatted) (wholeCalls t₀ p) (strike t₀ p d hit)
 
--- the table and the answer are those of the last recovery, for any script, table and scratch, and the scratch is what the calls leave of it one after
--- the other; and the demand, "Unless refusal 14 .. applies"
+-- the table and the answer are those of the last recovery, for any script, table and scratch, and the scratch is what
+-- the calls leave of it one after the other; and the demand, "Unless refusal 14 .. applies"
 pub record Rehearsed (p : Script) (t₀ t′ s s′ : List ℕ) (r : Answer) : Type 0 where
   pub table : t′ ≡ recovered t₀ p
   pub scratch : s′ ≡ scratchLeft t₀ p s

@@ -43,7 +43,8 @@ pub fn call_at(words: &[u64], i: usize) -> Call
 
 // The whole calls of a list.
 fn run_calls(table: &mut [u64], calls: &[u64], scratch: &mut [u64])
-    ensures { λ _. ⌜ RanCalls (now (calls .entry)) (now (table .entry)) (now (table .exit)) (now (scratch .entry)) (now (scratch .exit)) ⌝ }
+    ensures { λ _. ⌜ RanCalls (now (calls .entry))
+        (now (table .entry)) (now (table .exit)) (now (scratch .entry)) (now (scratch .exit)) ⌝ }
 {
     let count = calls.len() / 5;
     let mut i: usize = 0;
@@ -116,7 +117,8 @@ fn hit(table: &mut [u64], lost: Lost, words: &[u64])
 
 // Recoveries that are broken off, one for each limit.
 fn break_off(table: &mut [u64], lost: Lost, limits: &[u64], scratch: &mut [u64])
-    ensures { λ _. ⌜ BrokenOff lost (now (limits .entry)) (now (table .entry)) (now (table .exit)) (now (scratch .entry)) (now (scratch .exit)) ⌝ }
+    ensures { λ _. ⌜ BrokenOff lost (now (limits .entry))
+        (now (table .entry)) (now (table .exit)) (now (scratch .entry)) (now (scratch .exit)) ⌝ }
 {
     let count = limits.len();
     let mut i: usize = 0;
@@ -129,7 +131,8 @@ fn break_off(table: &mut [u64], lost: Lost, limits: &[u64], scratch: &mut [u64])
 
 // A call, cut at a limit, and then the hit.
 fn strike(table: &mut [u64], call: Call, limit: u64, lost: Lost, words: &[u64], scratch: &mut [u64])
-    ensures { λ _. ⌜ Struck call limit lost (now (words .entry)) (now (table .entry)) (now (table .exit)) (now (scratch .entry)) (now (scratch .exit)) ⌝ }
+    ensures { λ _. ⌜ Struck call limit lost (now (words .entry))
+        (now (table .entry)) (now (table .exit)) (now (scratch .entry)) (now (scratch .exit)) ⌝ }
 {
     crate::call::carry_out(table, call, scratch, limit);
     hit(table, lost, words);

@@ -1,4 +1,4 @@
--- The definitions that the contracts of `steps` cite: a record to a step, a step served, its line, and the program quay as a whole.
+-- The definitions that the contracts of `steps` cite: a record to a step, a step served, its line, the whole of quay.
 pub mod Steps
 pub mod Lines
 pub mod Run

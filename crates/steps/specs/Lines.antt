@@ -29,9 +29,11 @@ newline = 10
 
 -- as the listing of document 01 has it: "0 0 0 13"
 unfoldable pub lineBytes : ℕ → Numbers → List ℕ
-lineBytes number n = field number space ++ (field (n .answer) space ++ (field (n .value) space ++ field (n .stores) newline))
+lineBytes number n =
+    field number space ++ (field (n .answer) space ++ (field (n .value) space ++ field (n .stores) newline))
 
--- THE CONTRACT of what puts bytes at the start of a buffer: they stand there, the rest is as it was, and the answer is how many they are
+-- THE CONTRACT of what puts bytes at the start of a buffer: they stand there, the rest is as it was, and the answer is
+-- how many they are
 pub record BytesPut (bytes out out′ : List ℕ) (r : ℕ) : Type 0 where
   pub buffer : out′ ≡ bytes ++ drop (length bytes) out
   pub count : r ≡ length bytes

@@ -1,4 +1,4 @@
--- A record served: what quay keeps from record to record, and what a step does with it.
+-- The program quay: what it keeps from record to record, what a step does with it, and the whole.
 use Prim.Native.Nat.{ℕ, _+_, _%_, _^_, zero, suc, _/_}
 use mathlib.Core.Path.{_≡_}
 use mathlib.Core.Bool.{Bool, cond, _&&_, _||_, false}
@@ -20,6 +20,9 @@ pub record Quay : Type 0 where
   pub table : List ℕ
   pub scratch : List ℕ
   pub progress : Progress
+
+abbrev pub quay : List ℕ → List ℕ → Progress → Quay
+quay t s p = record { table = t; scratch = s; progress = p }
 
 -- "lent as empty to every call but format until a format is accepted"
 abbrev pub lentWhole : Bool → Call → Bool
@@ -51,12 +54,9 @@ abbrev pub counted : Progress → Bool → Progress
 counted p formatted = record { formatted = formatted; records = (p .records + 1) % 2 ^ 64 }
 
 abbrev pub served : Quay → Step → Quay
-served q (Asked call) = record {
-  table = tableAfter q call;
-  scratch = scratchBy call (planFor q call) (q .scratch);
-  progress = counted (q .progress) (formattedAfter q call);
-}
-served q Malformed = record { table = q .table; scratch = q .scratch; progress = counted (q .progress) (q .progress .formatted) }
+served q (Asked call) =
+    quay (tableAfter q call) (scratchBy call (planFor q call) (q .scratch)) (counted (q .progress) (formattedAfter q call))
+served q Malformed = quay (q .table) (q .scratch) (counted (q .progress) (q .progress .formatted))
 
 -- THE CONTRACT of serving a step
 pub record StepServed (q : Quay) (step : Step) (q′ : Quay) (numbers : Numbers) : Type 0 where
@@ -98,7 +98,7 @@ atStart = record { formatted = false; records = 0 }
 
 -- "Its table has 8,000 words"; the scratch is that of a Recover of the largest geometry, 256 items and 16 nodes
 abbrev pub start : Quay
-start = record { table = replicate 8000 0; scratch = replicate 272 0; progress = atStart }
+start = quay (replicate 8000 0) (replicate 272 0) atStart
 
 -- THE PROGRAM
 abbrev pub quayOf : List ℕ → List ℕ

@@ -28,9 +28,9 @@ placeOf first = first / 2 ^ 47 % 2
 abbrev pub restOf : ℕ → ℕ
 restOf first = first % 2 ^ 47
 
--- "A field not used is zero": node n, item b, place p and value x of an operation. "1 read" uses a node and an item, "2 write" a node, an item and a
--- value, "3 evict" a node, an item and a place, "8 recover" a node and a place, where "a Recover of none does not use the node"; "4 open, 5 create,
--- 6 commit, 7 abandon" use none.
+-- "A field not used is zero": node n, item b, place p and value x of an operation. "1 read" uses a node and an item,
+-- "2 write" a node, an item and a value, "3 evict" a node, an item and a place, "8 recover" a node and a place, where
+-- "a Recover of none does not use the node"; "4 open, 5 create, 6 commit, 7 abandon" use none.
 unfoldable pub unusedZero : ℕ → ℕ → ℕ → ℕ → ℕ → Bool
 unusedZero operation n b p x =
     cond (eqb operation 1) (eqb p 0 && eqb x 0)

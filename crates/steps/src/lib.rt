@@ -1,4 +1,5 @@
-// The program quay, but for reading its file and writing its lines: a record to a step, a step served, its line, and a run over records.
+// The program quay, but for reading its file and writing its lines: a record to a step, a step served, its line, and
+// a run over records.
 pub mod decode;
 pub mod lines;
 pub mod records;

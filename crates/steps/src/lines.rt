@@ -1,5 +1,4 @@
 // The bytes of a record's line.
-ghost use mathlib.Core.Path.{_≡_};
 ghost use Prim.Native.Nat.{_+_, _≤_};
 ghost use lib.ListN.{length};
 ghost use Rattle.steps.specs.Lines.{field, lineBytes, BytesPut};
@@ -36,7 +35,8 @@ fn put_field(out: &mut [u8], at: usize, n: u64, end: u8) -> usize
     to + 1
 }
 
-// Puts the line of a record at the start of a buffer: four numbers of at most 20 digits, each with a byte after it. Answers how many bytes it has.
+// Puts the line of a record at the start of a buffer: four numbers of at most 20 digits, each with a byte after it.
+// Answers how many bytes it has.
 pub fn line(number: u64, numbers: Numbers, out: &mut [u8; 84]) -> usize
     ensures { λ r. ⌜ BytesPut (lineBytes number numbers) (now (out .entry)) (now (out .exit)) r ⌝ }
 {

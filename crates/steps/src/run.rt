@@ -2,7 +2,7 @@
 ghost use mathlib.Core.Path.{_≡_};
 ghost use Prim.Native.Nat.{_+_, _≤_};
 ghost use lib.ListN.{length, take};
-ghost use Rattle.steps.specs.Run.{atStart, start as Run·start, RecordsRun};
+ghost use Rattle.steps.specs.Run.{quay, atStart, start as Run·start, RecordsRun};
 ghost use Rattle.steps.specs.code.RunCode.{StepRun};
 use crate::decode::Step;
 use crate::lines;
@@ -51,7 +51,10 @@ fn run_step(
     at: usize,
 ) -> Ran
     requires { ⌜ at + 84 ≤ length (now out) ⌝ }
-    ensures { λ r. ⌜ StepRun (record { table = now (table .entry); scratch = now (scratch .entry); progress = progress }) step (record { table = now (table .exit); scratch = now (scratch .exit); progress = r .progress }) (now (out .entry)) at (now (out .exit)) (r .count) ⌝ }
+    ensures { λ r. ⌜ StepRun (quay (now (table .entry)) (now (scratch .entry)) progress)
+        step
+        (quay (now (table .exit)) (now (scratch .exit)) (r .progress))
+        (now (out .entry)) at (now (out .exit)) (r .count) ⌝ }
 {
     let served = serve::serve(table, scratch, progress, step);
     let numbers = served.numbers;
@@ -74,7 +77,10 @@ fn run_records(
     out: &mut [u8],
 ) -> Ran
     requires { ⌜ (length (now bytes) ≤ 1024) × (5376 ≤ length (now out)) ⌝ }
-    ensures { λ r. ⌜ RecordsRun (record { table = now (table .entry); scratch = now (scratch .entry); progress = progress }) (now (bytes .entry)) (record { table = now (table .exit); scratch = now (scratch .exit); progress = r .progress }) (now (out .entry)) (now (out .exit)) (r .count) ⌝ }
+    ensures { λ r. ⌜ RecordsRun (quay (now (table .entry)) (now (scratch .entry)) progress)
+        (now (bytes .entry))
+        (quay (now (table .exit)) (now (scratch .exit)) (r .progress))
+        (now (out .entry)) (now (out .exit)) (r .count) ⌝ }
 {
     let mut progress = progress;
     let mut to: usize = 0;
@@ -102,8 +108,9 @@ fn first_bytes(bytes: &[u8], count: usize) -> &[u8]
     &bytes[..count]
 }
 
-// Runs the records of a chunk's first `count` bytes, and puts their lines, of at most 84 bytes each, at the start of `out`. The last record may be cut
-// off. Chunks that are full but for the last, one after the other, give what the whole file gives (`lines-then` in proofs/Laws/Run.antt).
+// Runs the records of a chunk's first `count` bytes, and puts their lines, of at most 84 bytes each, at the start of
+// `out`. The last record may be cut off. Chunks that are full but for the last, one after the other, give what the whole
+// file gives (`lines-then` in proofs/Laws/Run.antt).
 pub fn run_chunk(
     table: &mut [u64; 8000],
     scratch: &mut [u64; 272],
@@ -112,7 +119,10 @@ pub fn run_chunk(
     count: usize,
     out: &mut [u8; 5376],
 ) -> Ran
-    ensures { λ r. ⌜ RecordsRun (record { table = now (table .entry); scratch = now (scratch .entry); progress = progress }) (take count (now (bytes .entry))) (record { table = now (table .exit); scratch = now (scratch .exit); progress = r .progress }) (now (out .entry)) (now (out .exit)) (r .count) ⌝ }
+    ensures { λ r. ⌜ RecordsRun (quay (now (table .entry)) (now (scratch .entry)) progress)
+        (take count (now (bytes .entry)))
+        (quay (now (table .exit)) (now (scratch .exit)) (r .progress))
+        (now (out .entry)) (now (out .exit)) (r .count) ⌝ }
 {
     run_records(table, scratch, progress, first_bytes(bytes, count), out)
 }

@@ -1,7 +1,7 @@
 // A step carried out on quay's table.
 ghost use mathlib.Core.Path.{_≡_};
 ghost use Rattle.restore.specs.Run.{isFormat};
-ghost use Rattle.steps.specs.Run.{counted as Serving·counted, StepServed};
+ghost use Rattle.steps.specs.Run.{quay, counted as Serving·counted, StepServed};
 ghost use Rattle.steps.specs.declared.decode.Step.the-variants.{Asked};
 ghost use Rattle.steps.specs.code.ServingCode.{isDone, CarriedLent};
 use crate::decode::Step;
@@ -87,7 +87,10 @@ fn counted(progress: Progress, formatted: bool) -> Progress
 
 // Serves a call. Until a format is accepted, every call but format is lent an empty table.
 fn serve_call(table: &mut [u64], scratch: &mut [u64], progress: Progress, call: Call) -> Served
-    ensures { λ r. ⌜ StepServed (record { table = now (table .entry); scratch = now (scratch .entry); progress = progress }) (Asked call) (record { table = now (table .exit); scratch = now (scratch .exit); progress = r .progress }) (r .numbers) ⌝ }
+    ensures { λ r. ⌜ StepServed (quay (now (table .entry)) (now (scratch .entry)) progress)
+        (Asked call)
+        (quay (now (table .exit)) (now (scratch .exit)) (r .progress))
+        (r .numbers) ⌝ }
 {
     let format = is_format(call);
     let answer = carry_lent(table, scratch, progress.formatted | format, call);
@@ -100,7 +103,10 @@ fn serve_call(table: &mut [u64], scratch: &mut [u64], progress: Progress, call: 
 
 // Serves a step on quay's table and scratch.
 pub fn serve(table: &mut [u64], scratch: &mut [u64], progress: Progress, step: Step) -> Served
-    ensures { λ r. ⌜ StepServed (record { table = now (table .entry); scratch = now (scratch .entry); progress = progress }) step (record { table = now (table .exit); scratch = now (scratch .exit); progress = r .progress }) (r .numbers) ⌝ }
+    ensures { λ r. ⌜ StepServed (quay (now (table .entry)) (now (scratch .entry)) progress)
+        step
+        (quay (now (table .exit)) (now (scratch .exit)) (r .progress))
+        (r .numbers) ⌝ }
 {
     match step {
         Step::Asked(asked) => serve_call(table, scratch, progress, asked),

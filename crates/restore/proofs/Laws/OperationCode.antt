@@ -26,7 +26,8 @@ module _ (o x y z flag : ℕ) where
   call-recover h e = rw (h, e) refl
 
   pub call-unknown :
-      o ≢ 0 → o ≢ 1 → o ≢ 2 → o ≢ 3 → o ≢ 4 → o ≢ 5 → o ≢ 6 → o ≢ 7 → o ≢ 8 → o ≢ 16 → o ≢ 17 → Unknown ≡ callBy o x y z flag
+      o ≢ 0 → o ≢ 1 → o ≢ 2 → o ≢ 3 → o ≢ 4 → o ≢ 5 → o ≢ 6 → o ≢ 7 → o ≢ 8 → o ≢ 16 → o ≢ 17
+      → Unknown ≡ callBy o x y z flag
   unfolding callBy
   call-unknown e₀ e₁ e₂ e₃ e₄ e₅ e₆ e₇ e₈ e₁₆ e₁₇ =
       simp (

@@ -11,7 +11,7 @@ use lib.ListN.{length, take, drop, set, getD, length-append, length-set, take-ap
 use lib.Seq.{length-take-le, paste, paste-zero, paste-suc, take-paste, drop-paste, length-paste, take-length, take-suc-set, drop-set-lt, drop-drop}
 use borrow.Author.Tests.{ltb-true, ltb-false}
 use Rattle.io.specs.Counts.{Counts}
-use Rattle.io.specs.Digits.{glyph, digits, Fewest}
+use Rattle.io.specs.Digits.{digits, Fewest}
 use Rattle.counting.proofs.Laws.Tests.{by-cases}
 use Rattle.table.specs.declared.answers.Numbers.{Numbers}
 use Rattle.steps.specs.Lines.{digitsIn, decimalOf, field, space, newline, lineBytes, BytesPut}
@@ -89,11 +89,13 @@ module _ (out : List ℕ) (at : ℕ) (bytes : List ℕ) where
   put-none = paste-zero out at bytes
 
   pub put-next :
-      {i : ℕ} {out₁ out₂ : List ℕ} → at + length bytes ≤ length out → i < length bytes → out₁ ≡ paste out at bytes i → out₂ ≡ set out₁ (at + i) (getD bytes i 0)
+      {i : ℕ} {out₁ out₂ : List ℕ} → at + length bytes ≤ length out → i < length bytes
+      → out₁ ≡ paste out at bytes i → out₂ ≡ set out₁ (at + i) (getD bytes i 0)
       → out₂ ≡ paste out at bytes (i + 1)
   put-next {i} fit h e s = rw add-one (s ∙ rw e (paste-suc out at bytes i 0 (omega arith) h))
 
-  pub put-end : {i : ℕ} {out₁ : List ℕ} → at + length bytes ≤ length out → i ≤ length bytes → length bytes ≤ i → out₁ ≡ paste out at bytes i → PutAt out at bytes out₁ (at + i)
+  pub put-end : {i : ℕ} {out₁ : List ℕ} → at + length bytes ≤ length out → i ≤ length bytes → length bytes ≤ i
+      → out₁ ≡ paste out at bytes i → PutAt out at bytes out₁ (at + i)
   put-end {i} {out₁} fit a b e =
       let n : i ≡ length bytes = omega arith in
       let whole : out₁ ≡ paste out at bytes (length bytes) = rw n at e in
@@ -105,7 +107,8 @@ module _ (out : List ℕ) (at : ℕ) (bytes : List ℕ) where
       })
 
 pub put-then :
-    {out : List ℕ} {at : ℕ} {xs ys out₁ out₂ : List ℕ} {m r : ℕ} → PutAt out at xs out₁ m → PutAt out₁ m ys out₂ r → PutAt out at (xs ++ ys) out₂ r
+    {out : List ℕ} {at : ℕ} {xs ys out₁ out₂ : List ℕ} {m r : ℕ} → PutAt out at xs out₁ m
+    → PutAt out₁ m ys out₂ r → PutAt out at (xs ++ ys) out₂ r
 put-then {out} {at} {xs} {ys} {out₁} {out₂} {m} {r} a b = record {
   end = rw length-append (omega (arith, a .end, b .end));
   start = b .start ∙ ap (λ (l : List ℕ). l ++ ys) (a .start) ∙ append-assoc (take at out) xs ys;
@@ -126,7 +129,8 @@ put-byte {out} at end h = record {
 
 -- a number's digits and the byte after them
 pub field-put :
-    (n end : ℕ) {out : List ℕ} {at : ℕ} (d : List ℕ) {k : ℕ} {out₁ : List ℕ} {m : ℕ} → Fewest 10 1 n k → k ≤ 20 → take k d ≡ digits 10 k n
+    (n end : ℕ) {out : List ℕ} {at : ℕ} (d : List ℕ) {k : ℕ} {out₁ : List ℕ} {m : ℕ} → Fewest 10 1 n k → k ≤ 20
+    → take k d ≡ digits 10 k n
     → PutAt out at (take k d) out₁ m → m < length out₁ → PutAt out at (field n end) (set out₁ m end) (m + 1)
 field-put n end d {k} {m = m} f h e p room = put-then (rw (e ∙ decimal-is n k f h) at p) (put-byte m end room)
 
@@ -144,13 +148,16 @@ pub put-counts : {bytes out out′ : List ℕ} {r : ℕ} → BytesPut bytes out 
 put-counts {bytes} {out} {out′} {r} p =
     let h : r ≤ length out′ = rw (p .buffer, length-append) (omega (arith, p .count)) in (h, sym (length-take-le r out′ h))
 
-pub line-count : (number : ℕ) (n : Numbers) {out out′ : List ℕ} {r : ℕ} → BytesPut (lineBytes number n) out out′ r → r ≤ 84
+pub line-count : (number : ℕ) (n : Numbers) {out out′ : List ℕ} {r : ℕ}
+    → BytesPut (lineBytes number n) out out′ r → r ≤ 84
 line-count number n p = omega (arith, p .count, line-short number n)
 
 -- the four fields of a line
 pub line-put :
-    (number : ℕ) (n : Numbers) {out out₁ out₂ out₃ out₄ : List ℕ} {a b c r : ℕ} → PutAt out 0 (field number space) out₁ a
-    → PutAt out₁ a (field (n .answer) space) out₂ b → PutAt out₂ b (field (n .value) space) out₃ c → PutAt out₃ c (field (n .stores) newline) out₄ r
+    (number : ℕ) (n : Numbers) {out out₁ out₂ out₃ out₄ : List ℕ} {a b c r : ℕ}
+    → PutAt out 0 (field number space) out₁ a
+    → PutAt out₁ a (field (n .answer) space) out₂ b → PutAt out₂ b (field (n .value) space) out₃ c
+    → PutAt out₃ c (field (n .stores) newline) out₄ r
     → BytesPut (lineBytes number n) out out₄ r
 unfolding lineBytes
 line-put number n p₁ p₂ p₃ p₄ = put-start (put-then p₁ (put-then p₂ (put-then p₃ p₄)))

@@ -22,7 +22,8 @@ module _ (bytes : List ℕ) (at : ℕ) where
   word-from k h = rw h (simp (getD-drop, add-assoc))
 
   pub record-whole :
-      {first second : ℕ} {r : Step} → 16 ≤ length bytes - at → first ≡ wordAt bytes at → second ≡ wordAt bytes (at + 8)
+      {first second : ℕ} {r : Step} → 16 ≤ length bytes - at → first ≡ wordAt bytes at
+      → second ≡ wordAt bytes (at + 8)
       → r ≡ stepOf first second → r ≡ recordOf (drop at bytes)
   unfolding recordOf
   record-whole {first} {second} h p q e =

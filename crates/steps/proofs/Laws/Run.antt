@@ -1,15 +1,15 @@
 -- Runs: the lines of bytes that follow each other, and a law for each turn of the code.
-use Prim.Native.Nat.{ℕ, zero, suc, _+_, _-_, _*_, _/_, _%_, _≤_, _<_}
+use Prim.Native.Nat.{ℕ, zero, suc, _+_, _-_, _*_, _≤_, _<_}
 use mathlib.Core.Path.{_≡_, refl, sym, ap, _∙_}
 use mathlib.Core.List.{List, [], _∷_, _++_, append-assoc, append-nil}
 use native.Mathlib.Omega.{arith}
 use borrow.Author.Tests.{le-ltb}
-use lib.ListN.{getD, List·getD-append, length, take, drop, length-append, length-drop, length-take, take-append-drop}
-use lib.Seq.{length-take-le, take-all, take-append-seam, drop-drop, drop-append-le, drop-append-seam, drop-length, drop-nil}
+use lib.ListN.{getD, List·getD-append, length, take, drop, length-append, length-drop, take-append-drop}
+use lib.Seq.{length-take-le, take-all, take-append-seam, drop-drop, drop-append-le}
 use Rattle.table.specs.declared.answers.Numbers.{Numbers}
 use Rattle.steps.specs.declared.decode.Step.{Step}
-use Rattle.steps.specs.Steps.{wordAt, recordOf}
-use Rattle.steps.specs.Run.{Quay, served, numbersBy, StepServed, recordCount, stepsTo, stepsIn, linesBy, servedAll, linesOf, leftBy, start, quayOf, RecordsRun}
+use Rattle.steps.specs.Steps.{recordOf}
+use Rattle.steps.specs.Run.{Quay, served, numbersBy, StepServed, recordCount, stepsTo, stepsIn, linesBy, servedAll, linesOf, leftBy, start, RecordsRun}
 use Rattle.steps.specs.Lines.{lineBytes, BytesPut}
 use Rattle.steps.specs.code.RunCode.{PutAt, StepRun, RunTo}
 use Rattle.steps.proofs.Laws.Lines.{line-short}
@@ -80,8 +80,8 @@ steps-then (suc k) a b h =
     steps-next (a ++ b) some
     ∙ rw (record-front a b long, drop-append-le 16 a b long, steps-then k (drop 16 a) b rest, steps-next a (omega arith)) refl
 
--- THE LAW of chunks: bytes of whole records, and then any others. So chunks of 64 records, and a last one of fewer bytes, one after the other from
--- `start` on, give `quayOf` of the whole file.
+-- THE LAW of chunks: bytes of whole records, and then any others. So chunks of 64 records, and a last one of fewer
+-- bytes, one after the other from `start` on, give `quayOf` of the whole file.
 module _ (q : Quay) (k : ℕ) (a b : List ℕ) (whole : length a ≡ 16 * k) where
   pub lines-then : linesOf q (a ++ b) ≡ linesOf q a ++ linesOf (leftBy q a) b
   lines-then = ap (linesBy q) (steps-then k a b whole) ∙ by-then q (stepsIn a) (stepsIn b)
@@ -98,7 +98,8 @@ first-all bytes count h = sym (take-all count bytes h)
 -- a step served, and its line put
 pub step-run :
     {q q′ : Quay} {step : Step} {numbers : Numbers} {out : List ℕ} {at n : ℕ} (text : List ℕ) {text′ : List ℕ} {out′ : List ℕ} {r : ℕ} → StepServed q step q′ numbers
-    → BytesPut (lineBytes (q .progress .records) numbers) text text′ n → PutAt out at (take n text′) out′ r → StepRun q step q′ out at out′ r
+    → BytesPut (lineBytes (q .progress .records) numbers) text text′ n → PutAt out at (take n text′) out′ r
+    → StepRun q step q′ out at out′ r
 step-run {q} {step = step} {numbers} text {text′} s b p = record {
   state = s .state;
   line = rw (b .count, b .buffer, take-append-seam (lineBytes (q .progress .records) numbers) (drop (length (lineBytes (q .progress .records) numbers)) text), s .line) at p;
@@ -110,11 +111,13 @@ module _ (q₀ : Quay) (bytes out₀ : List ℕ) (small : length bytes ≤ 1024)
   pub run-none : RunTo q₀ bytes out₀ q₀ out₀ 0 0
   run-none = record { state = refl; lines = refl; rest = refl; size = refl; whole = omega arith; within = omega arith; room = omega arith }
 
-  pub run-room : {q : Quay} {out : List ℕ} {at to : ℕ} → RunTo q₀ bytes out₀ q out at to → at < length bytes → to + 84 ≤ length out
+  pub run-room : {q : Quay} {out : List ℕ} {at to : ℕ} → RunTo q₀ bytes out₀ q out at to → at < length bytes
+      → to + 84 ≤ length out
   run-room {at = at} {to} s h = omega (arith, s .whole, s .room, s .size)
 
   pub run-next :
-      {q q′ : Quay} {out out′ : List ℕ} {at to r : ℕ} {step : Step} → RunTo q₀ bytes out₀ q out at to → at < length bytes → step ≡ recordOf (drop at bytes)
+      {q q′ : Quay} {out out′ : List ℕ} {at to r : ℕ} {step : Step} → RunTo q₀ bytes out₀ q out at to
+      → at < length bytes → step ≡ recordOf (drop at bytes)
       → StepRun q step q′ out to out′ r → RunTo q₀ bytes out₀ q′ out′ (at + 16) r
   unfolding linesBy servedAll
   run-next {q} {q′} {out} {out′} {at} {to} {r} {step} s h e o = record {
@@ -135,7 +138,8 @@ module _ (q₀ : Quay) (bytes out₀ : List ℕ) (small : length bytes ≤ 1024)
           let l = lineBytes (q .progress .records) (numbersBy q step) in
           rw (o .line .end, ← drop-drop (length l) to out, ← drop-drop (length l) to out₀) (ap (drop (length l)) (s .rest))
 
-  pub run-end : {q : Quay} {out : List ℕ} {at to : ℕ} → RunTo q₀ bytes out₀ q out at to → length bytes ≤ at → RecordsRun q₀ bytes q out₀ out to
+  pub run-end : {q : Quay} {out : List ℕ} {at to : ℕ} → RunTo q₀ bytes out₀ q out at to → length bytes ≤ at
+      → RecordsRun q₀ bytes q out₀ out to
   unfolding linesBy servedAll
   run-end {q} {out} {at} {to} s h = record {
     state = rw none at (s .state);
@@ -150,3 +154,17 @@ module _ (q₀ : Quay) (bytes out₀ : List ℕ) (small : length bytes ≤ 1024)
 
       n : to ≡ length (linesOf q₀ bytes)
       n = sym (length-take-le to out (omega (arith, s .size, s .whole, s .within, s .room))) ∙ ap length all
+
+-- ---- what is written, chunk after chunk
+
+-- what a run puts at the start of a buffer are the lines of its bytes
+pub run-written : {q : Quay} {bytes : List ℕ} {q′ : Quay} (out : List ℕ) {out′ : List ℕ} {r : ℕ}
+    → RecordsRun q bytes q′ out out′ r → take r out′ ≡ linesOf q bytes
+run-written {q} {bytes} out o = rw (o .lines .count, o .lines .buffer) (take-append-seam (linesOf q bytes) (drop (length (linesOf q bytes)) out))
+
+-- a chunk of whole records, and then the rest of the file from where the chunk leaves quay
+pub run-then :
+    (k : ℕ) (rest : List ℕ) {q : Quay} {bytes : List ℕ} {q′ : Quay} (out : List ℕ) {out′ : List ℕ} {r : ℕ}
+    → length bytes ≡ 16 * k → RecordsRun q bytes q′ out out′ r
+    → linesOf q (bytes ++ rest) ≡ take r out′ ++ linesOf q′ rest
+run-then k rest {q} {bytes} out whole o = lines-then q k bytes rest whole ∙ rw (run-written out o, o .state) refl

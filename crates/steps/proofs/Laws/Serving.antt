@@ -1,6 +1,6 @@
 -- A law for each way of the code that serves a step.
 use Prim.Native.Nat.{ℕ}
-use mathlib.Core.Path.{_≡_, refl, sym, ap, _∙_}
+use mathlib.Core.Path.{_≡_, refl, ap, _∙_}
 use mathlib.Core.Bool.{Bool, true, false, cond, _&&_, _||_}
 use mathlib.Core.List.{List, [], _∷_, _++_}
 use native.Mathlib.Omega.{arith}
@@ -11,12 +11,12 @@ use Rattle.table.specs.declared.answers.Numbers.{Numbers}
 use Rattle.table.specs.Answers.{malformedNumbers, Plan, refuse, nothingLeft, carry, numbersOf, answerOf, numbersAt}
 use Rattle.restore.specs.declared.call.Call.{Call}
 use Rattle.restore.specs.Call.{planOf, accepted, CarriedOut}
-use Rattle.restore.specs.Run.{isFormat, storeCount, wholeTable}
+use Rattle.restore.specs.Run.{isFormat, storeCount}
 use Rattle.restore.proofs.Laws.WholeAt.{whole-at, whole-count}
 use Rattle.steps.specs.declared.decode.Step.the-variants.{Asked, Malformed}
 use Rattle.steps.specs.declared.decode.Step.{Step}
 use Rattle.steps.specs.declared.serve.Progress.{Progress}
-use Rattle.steps.specs.Run.{Quay, counted, numbersBy, served, StepServed}
+use Rattle.steps.specs.Run.{Quay, quay, counted, StepServed}
 use Rattle.steps.specs.code.ServingCode.{isDone, CarriedLent}
 
 -- the limit that the code gives, which no list reaches
@@ -24,7 +24,8 @@ abbrev unlimited : ℕ
 unlimited = 18446744073709551615
 
 -- so the answer is the whole call's
-whole-answer : (t : List ℕ) (scratch : ℕ) (call : Call) → answerOf (planOf t scratch call) unlimited ≡ answerOf (planOf t scratch call) (storeCount (planOf t scratch call))
+whole-answer : (t : List ℕ) (scratch : ℕ) (call : Call)
+    → answerOf (planOf t scratch call) unlimited ≡ answerOf (planOf t scratch call) (storeCount (planOf t scratch call))
 whole-answer t scratch call = go (planOf t scratch call) refl
   where
     go : (p : Plan) → planOf t scratch call ≡ p → answerOf p unlimited ≡ answerOf p (storeCount p)
@@ -35,7 +36,8 @@ whole-answer t scratch call = go (planOf t scratch call) refl
 -- ---- what a call is lent
 
 module _ {whole : Bool} (call : Call) {t s s′ : List ℕ} {r : Answer} where
-  pub lent-whole : {t′ : List ℕ} → whole ≡ true → CarriedOut call unlimited t t′ s s′ r → CarriedLent whole call t t′ s s′ r
+  pub lent-whole : {t′ : List ℕ} → whole ≡ true → CarriedOut call unlimited t t′ s s′ r
+      → CarriedLent whole call t t′ s s′ r
   lent-whole h o = rw h (record {
     answer = o .meets .answer ∙ whole-answer t (length s) call;
     table = o .meets .table ∙ whole-at t (length s) call unlimited (omega arith);
@@ -43,7 +45,8 @@ module _ {whole : Bool} (call : Call) {t s s′ : List ℕ} {r : Answer} where
   })
 
   -- the empty part that was lent is still empty
-  pub lent-empty : {p : List ℕ} → whole ≡ false → length p ≡ 0 → CarriedOut call unlimited [] p s s′ r → CarriedLent whole call t (p ++ t) s s′ r
+  pub lent-empty : {p : List ℕ} → whole ≡ false → length p ≡ 0 → CarriedOut call unlimited [] p s s′ r
+      → CarriedLent whole call t (p ++ t) s s′ r
   lent-empty {p} h e o = rw (h, none p e) (record {
     answer = o .meets .answer ∙ whole-answer [] (length s) call;
     table = refl;
@@ -71,7 +74,7 @@ module _ (p : Progress) (call : Call) (t s : List ℕ) {t′ s′ : List ℕ} wh
       {format done : Bool} {answer : Answer} {numbers : Numbers} {p′ : Progress} → format ≡ isFormat call
       → CarriedLent (p .formatted || format) call t t′ s s′ answer → done ≡ isDone answer → numbers ≡ numbersOf answer
       → p′ ≡ counted p (p .formatted || (format && done))
-      → StepServed (record { table = t; scratch = s; progress = p }) (Asked call) (record { table = t′; scratch = s′; progress = p′ }) numbers
+      → StepServed (quay t s p) (Asked call) (quay t′ s′ p′) numbers
   call-served f o d n c =
       let plan = planOf (cond (p .formatted || isFormat call) t []) (length s) call in
       let lent = rw f at o in
@@ -83,10 +86,11 @@ module _ (p : Progress) (call : Call) (t s : List ℕ) {t′ s′ : List ℕ} wh
       }
 
 pub step-served :
-    {q q′ : Quay} {step : Step} {call : Call} {numbers : Numbers} → step ≡ Asked call → StepServed q (Asked call) q′ numbers → StepServed q step q′ numbers
+    {q q′ : Quay} {step : Step} {call : Call} {numbers : Numbers} → step ≡ Asked call
+    → StepServed q (Asked call) q′ numbers → StepServed q step q′ numbers
 step-served e o = rw e o
 
 pub malformed-served :
     {step : Step} (t s : List ℕ) (p : Progress) {p′ : Progress} → step ≡ Malformed → p′ ≡ counted p (p .formatted)
-    → StepServed (record { table = t; scratch = s; progress = p }) step (record { table = t; scratch = s; progress = p′ }) malformedNumbers
+    → StepServed (quay t s p) step (quay t s p′) malformedNumbers
 malformed-served t s p e c = rw (e, c) (record { state = refl; line = refl })

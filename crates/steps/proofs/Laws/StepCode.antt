@@ -30,14 +30,16 @@ module _ (o n b p x : ℕ) where
   unfolding unusedZero
   unused-recover h = rw h refl
 
-  pub unused-all : o ≢ 1 → o ≢ 2 → o ≢ 3 → o ≢ 8 → (eqb n 0 && (eqb b 0 && (eqb p 0 && eqb x 0))) ≡ unusedZero o n b p x
+  pub unused-all : o ≢ 1 → o ≢ 2 → o ≢ 3 → o ≢ 8
+      → (eqb n 0 && (eqb b 0 && (eqb p 0 && eqb x 0))) ≡ unusedZero o n b p x
   unfolding unusedZero
   unused-all e₁ e₂ e₃ e₈ = rw (ne-eqb o 1 e₁, ne-eqb o 2 e₂, ne-eqb o 3 e₃, ne-eqb o 8 e₈) refl
 
 -- a record that keeps the rule, and one that breaks it
 module _ (f s : ℕ) where
   pub format-kept :
-      {t : Bool} {n m k : ℕ} {named : Operation} {r : Step} → t ≡ sizeForm f → (t && eqb s 0) ≡ true → n ≡ nodesOf f → m ≡ itemsOf f → k ≡ framesOf f
+      {t : Bool} {n m k : ℕ} {named : Operation} {r : Step} → t ≡ sizeForm f → (t && eqb s 0) ≡ true
+      → n ≡ nodesOf f → m ≡ itemsOf f → k ≡ framesOf f
       → named ≡ callBy 0 n m k 0 → r ≡ stepBy named → r ≡ formatStep f s
   unfolding formatStep
   format-kept ht h hn hm hk e q = q ∙ rw (e, hn, hm, hk, ← ht, h) refl
@@ -49,7 +51,8 @@ module _ (f s : ℕ) where
   module _
       {o n b p e : ℕ} {u : Bool} (ho : o ≡ operationOf f) (hn : n ≡ nodeOf f) (hb : b ≡ itemOf f) (hp : p ≡ placeOf f) (he : e ≡ restOf f)
       (hu : u ≡ unusedZero o n b p s) where
-    pub call-kept : {named : Operation} {r : Step} → (eqb e 0 && u) ≡ true → named ≡ callBy o n b s p → r ≡ stepBy named → r ≡ callStep f s
+    pub call-kept : {named : Operation} {r : Step} → (eqb e 0 && u) ≡ true → named ≡ callBy o n b s p
+        → r ≡ stepBy named → r ≡ callStep f s
     unfolding callStep
     call-kept h k q = q ∙ rw (k, ← ho, ← hn, ← hb, ← hp, ← he, ← hu, h) refl
 

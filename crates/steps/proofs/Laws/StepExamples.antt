@@ -1,4 +1,4 @@
--- Document 01's records and malformed ones, computed by the definitions.
+-- Document 01's records, malformed ones, and lines, computed by the definitions.
 use Prim.Native.Nat.{ℕ, _+_, _-_, _*_, _^_}
 use mathlib.Core.Path.{_≡_, refl}
 use mathlib.Core.List.{[], _∷_, _++_, map}
@@ -11,6 +11,8 @@ use Rattle.homes.specs.Places.{placeBy}
 use Rattle.survivors.specs.Survivors.{lostBy}
 use Rattle.restore.specs.Operations.{callBy}
 use Rattle.steps.specs.Steps.{unusedZero, formatStep, callStep, stepOf, recordOf}
+use Rattle.steps.specs.Lines.{digitsIn, decimalOf, lineBytes}
+use Rattle.steps.specs.Run.{stepsTo, stepsIn}
 
 -- the first word of operation o, node n, item b, place p
 abbrev word : (o n b p : ℕ) → ℕ
@@ -113,3 +115,25 @@ bytes-of-a-write = refl
 pub cut-off : recordOf (34 ∷ replicate 14 0) ≡ Malformed
 unfolding recordOf
 cut-off = refl
+
+-- "0 0 0 13"
+pub first-line : lineBytes 0 (record { answer = 0; value = 0; stores = 13 }) ≡ 48 ∷ 32 ∷ 48 ∷ 32 ∷ 48 ∷ 32 ∷ 49 ∷ 51 ∷ 10 ∷ []
+unfolding lineBytes digitsIn
+first-line = refl
+
+-- "2 0 7 3"
+pub third-line : lineBytes 2 (record { answer = 0; value = 7; stores = 3 }) ≡ 50 ∷ 32 ∷ 48 ∷ 32 ∷ 55 ∷ 32 ∷ 51 ∷ 10 ∷ []
+unfolding lineBytes digitsIn
+third-line = refl
+
+-- the largest number of 64 bits, 18446744073709551615
+pub longest :
+    decimalOf (2 ^ 64 - 1)
+    ≡ 49 ∷ 56 ∷ 52 ∷ 52 ∷ 54 ∷ 55 ∷ 52 ∷ 52 ∷ 48 ∷ 55 ∷ 51 ∷ 55 ∷ 48 ∷ 57 ∷ 53 ∷ 53 ∷ 49 ∷ 54 ∷ 49 ∷ 53 ∷ []
+unfolding digitsIn
+longest = refl
+
+-- two records and a cut-off one: three steps
+pub three-steps : stepsIn (34 ∷ replicate 15 0 ++ (64 ∷ replicate 15 0) ++ (64 ∷ [])) ≡ Asked (Write 2 0 0) ∷ Asked Open ∷ Malformed ∷ []
+unfolding placeBy lostBy callBy unusedZero formatStep callStep stepOf recordOf stepsTo
+three-steps = refl

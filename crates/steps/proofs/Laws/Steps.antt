@@ -41,7 +41,8 @@ module _ (f s : ℕ) where
   abbrev rest : ℕ
   rest = restOf f
 
-  pub format-step : operation ≡ 0 → stepOf f s ≡ asked (sizeForm f && eqb s 0) (Format (nodesOf f) (itemsOf f) (framesOf f))
+  pub format-step : operation ≡ 0
+      → stepOf f s ≡ asked (sizeForm f && eqb s 0) (Format (nodesOf f) (itemsOf f) (framesOf f))
   unfolding stepOf formatStep callBy
   format-step e = rw e refl
 

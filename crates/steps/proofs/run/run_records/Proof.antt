@@ -1,9 +1,9 @@
 -- `run_records` meets its contract: the loop has run the records before `at`. Assumes nothing.
 use Prim.Native.Nat.{_-_}
 use mathlib.Core.Path.{_≡_}
-use native.Mathlib.Omega.{arith}
 use borrow.Author.Needs.{needs}
 use lib.ListN.{length}
+use Rattle.steps.specs.Run.{quay}
 use Rattle.steps.specs.code.RunCode.{RunTo}
 use Rattle.steps.proofs.Laws.Run.{run-none, run-room, run-next, run-end}
 use Rattle.steps.proofs.run.run_records.Statement.{statement}
@@ -12,7 +12,7 @@ use Rattle.steps.proofs.run.run_records.Tie as tie
 abbrev Inv-loop : tie.InvT-loop
 Inv-loop table₀ scratch₀ bytes out₀ progress₀ to₀ at₀ table scratch out progress to at =
     (length table ≡ length table₀) × ((length scratch ≡ length scratch₀)
-    × RunTo (record { table = table₀; scratch = scratch₀; progress = progress₀ }) bytes out₀ (record { table = table; scratch = scratch; progress = progress }) out at to)
+    × RunTo (quay table₀ scratch₀ progress₀) bytes out₀ (quay table scratch progress) out at to)
 
 abbrev μ-loop : tie.MeasureT-loop
 μ-loop table₀ scratch₀ bytes out₀ progress₀ to₀ at₀ table scratch out progress to at = length bytes - at
