@@ -47,7 +47,7 @@ entriesBefore g v change n =
 abbrev pub entriesTo : Geometry → View → (Entry → List Change) → List Store
 entriesTo g v change = entriesBefore g v change (g .nodes)
 
--- ---- How an open checkpoint ends in an entry. Commit: "one state store where Precommit or Inv-CK stands". Abandon: "Precommit state words likewise".
+-- ---- how an open checkpoint ends in an entry. Commit: "one state store where Precommit or Inv-CK stands". Abandon: "Precommit state words likewise".
 
 -- "where Precommit or Inv-CK stands"
 abbrev pub commits : Entry → Bool

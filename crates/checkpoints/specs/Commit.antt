@@ -46,8 +46,6 @@ commitOf t = planBy commitAdmission (λ g v. carry g 0 (commitStores g v)) t
 
 -- ---- Abandon: "Precommit state words likewise, then marks to phase 0."
 
--- ---- the stores
-
 -- "marks to phase 0", the number as it was
 abbrev pub runningMark : ℕ → ℕ
 runningMark w = markWord 0 (numberOf w)

@@ -1,6 +1,6 @@
 -- Open, Create, Commit and Abandon as plans.
 pub mod Checkpoint
 pub mod Open
-pub mod Commit
 pub mod Create
+pub mod Commit
 pub mod code

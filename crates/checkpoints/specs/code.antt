@@ -1,4 +1,3 @@
 -- What only the contracts of private functions cite.
 pub mod Checkpoint
-pub mod ClosingCode
 pub mod CreateCode

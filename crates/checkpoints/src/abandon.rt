@@ -3,7 +3,7 @@ ghost use Rattle.table.specs.Stores.{Stored};
 ghost use Rattle.table.specs.View.{view};
 ghost use Rattle.table.specs.Answers.{Meets};
 ghost use Rattle.checkpoints.specs.Commit.{abandonStores, abandonOf};
-ghost use Rattle.checkpoints.specs.code.ClosingCode.{Agreed};
+ghost use Rattle.checkpoints.specs.code.Checkpoint.{Agreed};
 use crate::checkpoint;
 use crate::checkpoint::Closing;
 use entries::check::Checked;

@@ -6,7 +6,7 @@ ghost use Rattle.table.specs.View.{view};
 ghost use Rattle.table.specs.Answers.{Meets};
 ghost use Rattle.entries.specs.Dirty.{dirtyItem};
 ghost use Rattle.checkpoints.specs.Commit.{commitAdmission, commitStores, commitOf};
-ghost use Rattle.checkpoints.specs.code.ClosingCode.{Agreed};
+ghost use Rattle.checkpoints.specs.code.Checkpoint.{Agreed};
 use crate::checkpoint;
 use crate::checkpoint::Closing;
 use entries::check::Surveyed;

@@ -4,7 +4,7 @@ ghost use Rattle.table.specs.Stores.{Stored};
 ghost use Rattle.table.specs.View.{view};
 ghost use Rattle.table.specs.Answers.{Meets};
 ghost use Rattle.checkpoints.specs.Open.{startAdmission, openStores, openOf};
-ghost use Rattle.checkpoints.specs.code.ClosingCode.{Agreed};
+ghost use Rattle.checkpoints.specs.code.Checkpoint.{Agreed};
 use crate::checkpoint;
 use entries::check::Checked;
 use homes::admission::Admission;

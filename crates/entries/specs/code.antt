@@ -1,7 +1,5 @@
 -- What only the contracts of private functions cite.
-pub mod Frames
 pub mod Row
-pub mod RowFrames
 pub mod Survey
 pub mod SurveyRow
 pub mod SurveySound

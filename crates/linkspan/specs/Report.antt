@@ -49,7 +49,7 @@ pub record RecoverReports (a : Asked) (limit : ℕ) (t t′ s s′ : List ℕ) (
   pub reports : Reports a limit t t′ value stores r
   pub scratch : s′ ≡ askedScratch a s
 
--- ---- Numbers that stand for an argument: a place is 0 or 1, and so is whether a node was lost. Any other number is malformed.
+-- ---- numbers that stand for an argument: a place is 0 or 1, and so is whether a node was lost. Any other number is malformed.
 
 -- "place 1 (0 current, 1 kept; in Recover 1 means none lost)"
 unfoldable pub evictAsked : List ℕ → ℕ → ℕ → ℕ → Asked
@@ -78,7 +78,7 @@ pub record PartReports (t : List ℕ) (n start words r : ℕ) : Type 0 where
   pub counted : words ≡ partWords (stretchOf t n)
   pub within : start + words ≤ length t
 
--- ---- The words that a table of so many nodes and items needs. Frames need no words, and more of them never harm, so the most that a node can have are asked for:
+-- ---- the words that a table of so many nodes and items needs. Frames need no words, and more of them never harm, so the most that a node can have are asked for:
 -- every geometry of these nodes and items has these words (`words-of-any`), and where the number is 0 there is none (`no-words`).
 
 unfoldable pub madeWords : Made → ℕ

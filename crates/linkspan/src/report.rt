@@ -1,6 +1,5 @@
 // How an answer is handed out: its number is the result, value and count of stores go where the caller says.
-ghost use Rattle.table.specs.Answers.{numbersOf};
-ghost use Rattle.table.specs.Answers.{malformedNumbers};
+ghost use Rattle.table.specs.Answers.{numbersOf, malformedNumbers};
 ghost use Rattle.linkspan.specs.Report.{HandedOut};
 use table::answers;
 use table::answers::Answer;

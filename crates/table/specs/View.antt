@@ -70,7 +70,7 @@ abbrev pub updates : List Store → View → View
 updates [] v = v
 updates (s ∷ ss) v = updates ss (update s v)
 
--- ---- A pass over entries in any order that meets none twice: place k is the entry of node `nd k` and item `it k`, changed by a list of its own.
+-- ---- a pass over entries in any order that meets none twice: place k is the entry of node `nd k` and item `it k`, changed by a list of its own.
 -- A column (one item): nd k = k, it k = b. By node, then item: nd k = k / M, it k = k % M. By item, then node: nd k = k % N, it k = k / N.
 
 abbrev pub pass : (ℕ → ℕ) → (ℕ → ℕ) → (ℕ → List Change) → ℕ → List Store

@@ -1,4 +1,4 @@
--- The laws of `specs/code/ClosingCode.antt`.
+-- Laws of `specs/code/Checkpoint.antt`: live marks agree, so one word is stored on each of them.
 use Prim.Native.Nat.{ℕ, _+_, _*_, _/_, _%_, _^_, _≤_, _<_}
 use mathlib.Core.Path.{_≡_, sym, ap, ap₂, _∙_}
 use mathlib.Core.Bool.{not, cond}
@@ -26,7 +26,7 @@ use Rattle.checkpoints.specs.declared.checkpoint.Closing.the-variants.{C
 use Rattle.checkpoints.specs.Checkpoint.{commonMark, liveChanges, entriesBefore, entriesTo, closeChange}
 use Rattle.checkpoints.specs.Open.{creatingMark, openStores}
 use Rattle.checkpoints.specs.Commit.{committingMark, committedMark, commitStores, runningMark, abandonStores}
-use Rattle.checkpoints.specs.code.ClosingCode.{Agreed, MarksStored}
+use Rattle.checkpoints.specs.code.Checkpoint.{Agreed, MarksStored}
 
 -- ---- live marks agree
 

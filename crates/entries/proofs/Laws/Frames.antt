@@ -12,7 +12,7 @@ use Rattle.table.specs.Words.{currentOf, keptOf, stateWord}
 use Rattle.table.proofs.Laws.Words.{current-state, kept-state}
 use Rattle.table.specs.View.{View}
 use Rattle.entries.specs.Frames.{setsOf, setOf, setFrames, frameOf, framesIn, framesAt, used, frameFree}
-use Rattle.entries.specs.code.Frames.{ampleFor}
+use Rattle.entries.specs.code.Row.{ampleFor}
 
 -- ---- what tells of a free frame without counting
 

@@ -1,4 +1,4 @@
--- The laws of `specs/code/RowFrames.antt`.
+-- Laws of `specs/code/Row.antt`: the frames of a row.
 use Prim.Native.Nat.{ℕ, _+_, _*_, _/_, _%_, _<_, _≤_}
 use mathlib.Core.Path.{_≡_, refl, ap, _∙_}
 use mathlib.Core.Bool.{Bool, true, _&&_}
@@ -15,9 +15,8 @@ use Rattle.table.specs.Geometry.{Placed}
 use Rattle.table.specs.View.{view}
 use Rattle.entries.specs.Frames.{setsOf, frameOf, framesIn, used}
 use Rattle.entries.proofs.Laws.Frames.{set-there, frames-here}
-use Rattle.entries.specs.code.Row.{topOf}
+use Rattle.entries.specs.code.Row.{topOf, frameDigits, rowFrames, fourFrames}
 use Rattle.entries.proofs.Laws.Row.{quarter, row-read, row-state}
-use Rattle.entries.specs.code.RowFrames.{frameDigits, rowFrames, fourFrames}
 
 -- ---- an entry
 

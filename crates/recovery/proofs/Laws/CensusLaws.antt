@@ -34,9 +34,8 @@ use Rattle.recovery.specs.Recover.{survivorsFormed}
 use Rattle.survivors.specs.Survivors.{survivors}
 use Rattle.survivors.proofs.Laws.SurvivorsCode.{survivor-entry}
 use Rattle.recovery.specs.Sides.{copyOn}
-use Rattle.recovery.specs.code.Rows.{stateIn, Listed, reached}
+use Rattle.recovery.specs.code.Rows.{stateIn, Listed, reached, RowTo}
 use Rattle.recovery.proofs.Laws.Rows.{reached-start, reached-next, listed-turn, listed-end, row-room}
-use Rattle.recovery.specs.code.RowsSound.{RowTo}
 use Rattle.recovery.proofs.Laws.RowsSound.{row-start, row-turn, row-all, row-sound}
 use Rattle.recovery.specs.code.Tallies.{numberWeight, stepOf}
 use Rattle.recovery.specs.code.Notes.{hasOn, NotedTo, equalTo}

@@ -34,7 +34,7 @@ use Rattle.recovery.proofs.Laws.Tallies.{plain-nothing}
 use Rattle.recovery.specs.code.NumberingCode.{Unkept}
 use Rattle.recovery.specs.code.Census.{sideWeight, heldOn}
 use Rattle.recovery.proofs.Laws.RollingCode.{runs-empty}
-use Rattle.recovery.specs.code.PartnersCounts.{AgreesTo}
+use Rattle.recovery.specs.code.PartnersCode.{AgreesTo}
 use Rattle.recovery.proofs.Laws.Ready.{PlainEntry}
 use Rattle.recovery.proofs.Laws.PlainSides.{plain-number}
 use Rattle.recovery.proofs.Laws.RollEntry.{SafeOn, Rolled, roll-steps}

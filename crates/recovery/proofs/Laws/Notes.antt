@@ -22,12 +22,11 @@ use Rattle.survivors.specs.declared.lost.Lost.{Lost}
 use Rattle.survivors.specs.Survivors.{survivors}
 use Rattle.survivors.proofs.Laws.SurvivorsCode.{survivor-entry}
 use Rattle.recovery.specs.Sides.{copyOn, copiesOn, itemFits}
-use Rattle.recovery.specs.code.SidesCode.{copiesTo}
+use Rattle.recovery.specs.code.Notes.{copiesTo, firstMet, agreesMet, hasAt, valueAt, weightAt, NotedTo, Noted, equalTo}
 use Rattle.recovery.proofs.Laws.SidesCode.{copies-start, copies-next}
 use Rattle.recovery.specs.code.Rows.{stateIn, Listed, reached}
 use Rattle.recovery.proofs.Laws.Rows.{reached-start, reached-next, listed-turn, listed-end, rowed-none, rowed-blank, rowed-set}
 use Rattle.recovery.specs.code.Tallies.{numberWeight, stepOf}
-use Rattle.recovery.specs.code.Notes.{firstMet, agreesMet, hasAt, valueAt, weightAt, NotedTo, Noted, equalTo}
 
 -- ---- a node's recovery copies on a side
 

@@ -20,10 +20,8 @@ use Rattle.recovery.specs.code.Tallies.{Tallied, plain}
 use Rattle.recovery.proofs.Laws.Tallies.{holders-told, holder-told}
 use Rattle.recovery.specs.code.NumberingCode.{Unkept}
 use Rattle.recovery.proofs.Laws.Followed.{Entered, stored-any, view-left, entered-within, survivors-entered}
-use Rattle.recovery.specs.code.PartnersCounts.{AgreesTo}
-use Rattle.recovery.specs.code.PartnersCode.{Ready, Turned, Filled, FilledFrom}
+use Rattle.recovery.specs.code.PartnersCode.{AgreesTo, Ready, Turned, Filled, FilledFrom, Settled, Settles}
 use Rattle.recovery.proofs.Laws.PartnersCode.{filled-ready, filled-then}
-use Rattle.recovery.specs.code.PartnersSkip.{Settled, Settles}
 use Rattle.recovery.proofs.Laws.RecoverStages.{entered-roll, entered-number}
 use Rattle.recovery.proofs.Laws.RollVia.{roll-via}
 use Rattle.recovery.proofs.Laws.NumberVia.{number-via}

@@ -33,9 +33,8 @@ use Rattle.survivors.proofs.Laws.SurvivorsCode.{survivor-entry}
 use Rattle.recovery.specs.Numbering.{single, holderOf, takes, takesAfter, partnerOf, partnerChanges, partnerFrom, partnerStores, staged, partnersStores}
 use Rattle.recovery.proofs.Laws.Followed.{stored-any, view-left, Entered, entered-changes, entered-within, survivors-entered, stage-follows}
 use Rattle.recovery.specs.code.Rows.{HasEntry}
-use Rattle.recovery.specs.code.PartnersCounts.{AgreesTo, Counts, usedWith}
+use Rattle.recovery.specs.code.PartnersCode.{AgreesTo, Counts, usedWith, takesBy, takesByAfter, partnerBy, UsedBy, Filled, Ready, Turned, Found, FilledFrom}
 use Rattle.recovery.proofs.Laws.PartnersCounts.{agrees-start, agrees-turn, partner-agrees}
-use Rattle.recovery.specs.code.PartnersCode.{takesBy, takesByAfter, partnerBy, UsedBy, Filled, Ready, Turned, Found, FilledFrom}
 
 -- ---- the test and the search, by the table and by the scratch
 

@@ -1,4 +1,4 @@
--- The laws of `specs/code/PartnersCounts.antt`.
+-- Laws of `specs/code/PartnersCode.antt`: the frames in use of each survivor.
 use Prim.Native.Nat.{ℕ, _+_, _-_, _≤_, _<_}
 use mathlib.Core.Path.{_≡_, refl, sym, ap, _∙_}
 use mathlib.Core.Bool.{true, cond}
@@ -20,7 +20,7 @@ use Rattle.table.proofs.Laws.Puts.{put₂-same, put₂-other}
 use Rattle.entries.specs.Frames.{frameOf, framesIn, framesAt, used}
 use Rattle.entries.proofs.Laws.Frames.{frames-state}
 use Rattle.recovery.specs.Numbering.{partnerChanges}
-use Rattle.recovery.specs.code.PartnersCounts.{AgreesTo, usedWith}
+use Rattle.recovery.specs.code.PartnersCode.{AgreesTo, usedWith}
 
 -- ---- the count fills up
 

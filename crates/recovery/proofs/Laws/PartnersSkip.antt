@@ -1,4 +1,4 @@
--- The laws of `specs/code/PartnersSkip.antt`.
+-- Laws of `specs/code/PartnersCode.antt`: the items that a turn of the partner stage passes over.
 use Prim.Native.Nat.{ℕ, zero, suc, _+_, _-_, _*_, _≤_, _<_}
 use mathlib.Core.Path.{_≡_, refl, sym, ap, _∙_}
 use mathlib.Core.Logic.{_≢_}
@@ -24,10 +24,9 @@ use Rattle.survivors.specs.declared.lost.Lost.{Lost}
 use Rattle.survivors.specs.Survivors.{survivors}
 use Rattle.survivors.proofs.Laws.SurvivorsCode.{survivor-entry, survivor-marks}
 use Rattle.recovery.specs.Numbering.{single, holderOf, takesAfter, partnerOf, partnerChanges, partnerFrom, partnerStores, staged}
-use Rattle.recovery.specs.code.PartnersCode.{Ready, Turned}
+use Rattle.recovery.specs.code.PartnersCode.{Ready, Turned, Single, Settles, Passable}
 use Rattle.recovery.proofs.Laws.PartnersCode.{holder-there, item-other, items-ready}
 use Rattle.recovery.specs.code.Tallies.{holdersBy, holderBy}
-use Rattle.recovery.specs.code.PartnersSkip.{Single, Settles, Passable}
 
 -- ---- the stores of the items before i
 

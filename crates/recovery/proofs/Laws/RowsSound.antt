@@ -1,4 +1,4 @@
--- The laws of `specs/code/RowsSound.antt`.
+-- Laws of `specs/code/Rows.antt`: the word forms and the frames of a survivor.
 use Prim.Native.Nat.{ℕ, _+_, _≤_, _<_}
 use mathlib.Core.Path.{_≡_, refl, sym, ap, ap₂, _∙_}
 use mathlib.Core.Bool.{Bool, true, _&&_, and-true}
@@ -17,9 +17,8 @@ use Rattle.entries.specs.Sound.{statesForm, nodeSound}
 use Rattle.survivors.specs.declared.lost.Lost.{Lost}
 use Rattle.survivors.specs.Survivors.{survivors}
 use Rattle.survivors.proofs.Laws.SurvivorsCode.{survivor-live}
-use Rattle.recovery.specs.code.Rows.{stateIn, Listed, reached}
+use Rattle.recovery.specs.code.Rows.{stateIn, Listed, reached, RowTo}
 use Rattle.recovery.proofs.Laws.Rows.{reached-start, reached-next, listed-turn, listed-end}
-use Rattle.recovery.specs.code.RowsSound.{RowTo}
 
 -- ---- the pass
 

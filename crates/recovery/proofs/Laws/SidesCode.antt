@@ -1,4 +1,4 @@
--- The laws of `specs/code/SidesCode.antt`.
+-- Laws of `specs/code/Notes.antt`: the recovery copies of an item on a side.
 use Prim.Native.Nat.{ℕ, _+_}
 use mathlib.Core.Path.{_≡_}
 use mathlib.Core.Bool.{Bool, cond}
@@ -10,7 +10,7 @@ use Rattle.table.specs.View.{View}
 use Rattle.table.specs.Copies.{copyValue}
 use Rattle.recovery.specs.Sides.{copyOn, hasCopy, itemFits, itemsFit}
 use Rattle.survivors.specs.Direction.{forwardIn}
-use Rattle.recovery.specs.code.SidesCode.{copiesTo}
+use Rattle.recovery.specs.code.Notes.{copiesTo}
 
 -- ---- the recovery copies of an item
 

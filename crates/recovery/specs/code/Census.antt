@@ -23,10 +23,9 @@ use Rattle.recovery.specs.declared.census.Kinds.{Kinds}
 use Rattle.recovery.specs.declared.census.Census.{Census}
 use Rattle.recovery.specs.Recover.{survivorsFormed}
 use Rattle.recovery.specs.Sides.{copyOn, itemFits}
-use Rattle.recovery.specs.code.SidesCode.{copiesTo}
+use Rattle.recovery.specs.code.Notes.{copiesTo, hasOn, firstMet, agreesMet, NotedTo, Noted, equalTo}
 use Rattle.recovery.specs.code.Tallies.{numberWeight, stepOf, plain}
-use Rattle.recovery.specs.code.RowsSound.{RowTo}
-use Rattle.recovery.specs.code.Notes.{hasOn, firstMet, agreesMet, NotedTo, Noted, equalTo}
+use Rattle.recovery.specs.code.Rows.{RowTo}
 
 -- ---- an entry
 

@@ -1,20 +1,26 @@
--- The recovery copies of each item, noted by rows: the first value, and a tally, which is 0 while there is none.
+-- The recovery copies of an item on a side, node by node.
 use Prim.Native.Nat.{ℕ, _+_, _*_, _≤_, _<_}
-use mathlib.Core.Path.{_≡_}
 use mathlib.Core.Bool.{Bool, cond, not, _||_}
+use Rattle.counting.specs.Values.{Values, valuesOf}
+use Rattle.table.specs.View.{View, Entry}
+use Rattle.table.specs.Copies.{copyValue, copyNumber}
+use Rattle.recovery.specs.Sides.{copyOn, hasCopy}
+use mathlib.Core.Path.{_≡_}
 use mathlib.Core.List.{List}
 use lib.Dec.{eqb}
 use lib.ListN.{length, getD}
 use Rattle.counting.specs.Counting.{every}
 use Rattle.table.specs.declared.geometry.Geometry.{Geometry}
-use Rattle.table.specs.View.{Entry, View}
-use Rattle.table.specs.Copies.{copyNumber, copyValue}
-use Rattle.recovery.specs.Sides.{copyOn}
-use Rattle.recovery.specs.code.SidesCode.{copiesTo}
 use Rattle.recovery.specs.code.Rows.{Rowed}
 use Rattle.recovery.specs.code.Tallies.{numberWeight, stepOf}
 
--- ---- one copy more, if there is one
+-- ---- the recovery copies of an item
+
+-- those of the nodes below n
+unfoldable pub copiesTo : Bool → View → ℕ → ℕ → Values
+copiesTo forward w b n = valuesOf n (hasCopy forward w b) (λ k. copyValue (copyOn forward (w .entry k b)))
+
+-- ---- the recovery copies of each item, noted by rows: the first value, and a tally, which is 0 while there is none.
 
 abbrev pub firstMet : Bool → ℕ → ℕ → ℕ → ℕ
 firstMet has tally first x = cond has (cond (eqb tally 0) x first) first

@@ -16,9 +16,7 @@ use Rattle.recovery.specs.Numbering.{numberStores, partnersStores}
 use Rattle.recovery.specs.Recover.{survivorsFormed}
 use Rattle.recovery.specs.code.Tallies.{plain}
 use Rattle.recovery.specs.code.NumberingCode.{Numbering}
-use Rattle.recovery.specs.code.PartnersCounts.{AgreesTo}
-use Rattle.recovery.specs.code.PartnersCode.{Turned}
-use Rattle.recovery.specs.code.PartnersSkip.{Settled}
+use Rattle.recovery.specs.code.PartnersCode.{AgreesTo, Turned, Settled}
 use Rattle.recovery.specs.code.Census.{sideWeight, heldOn}
 
 -- ---- what the code needs

@@ -1,23 +1,38 @@
--- What the functions of the partner stage promise. The frames in use are read from the scratch.
-use Prim.Native.Nat.{ℕ, _-_, _≤_, _<_}
+-- The frames in use of each survivor, as the partner stage holds them in the first words of the scratch: they agree with the table while anything is
+-- left of the limit.
+use Prim.Native.Nat.{ℕ, _+_, _<_, _-_, _≤_}
 use mathlib.Core.Path.{_≡_}
-use mathlib.Core.Bool.{Bool, true, _&&_}
+use mathlib.Core.Bool.{true, cond, Bool, _&&_}
 use mathlib.Core.List.{List}
 use lib.Dec.{eqb, ltb}
-use lib.ListN.{length, getD, drop}
-use Rattle.counting.specs.Counting.{first}
+use lib.ListN.{getD, length, drop}
 use Rattle.table.specs.declared.geometry.Geometry.{Geometry}
-use Rattle.table.specs.Geometry.{wordsOf}
-use Rattle.table.specs.Words.{invalid}
-use Rattle.table.specs.Stores.{Store, Stored}
+use Rattle.table.specs.Words.{keptOf, invalid}
 use Rattle.table.specs.View.{View, view, live, current}
-use Rattle.entries.specs.Frames.{setFrames, used}
-use Rattle.homes.specs.Home.{nodeAfter}
+use Rattle.entries.specs.Frames.{used, setFrames}
 use Rattle.survivors.specs.declared.lost.Lost.{Lost}
 use Rattle.survivors.specs.Survivors.{survivors}
-use Rattle.recovery.specs.code.PartnersCounts.{AgreesTo, Counts}
+use Rattle.counting.specs.Counting.{first, count}
+use Rattle.table.specs.Geometry.{wordsOf}
+use Rattle.table.specs.Stores.{Store, Stored}
+use Rattle.homes.specs.Home.{nodeAfter}
+use Rattle.entries.specs.Tally.{copy}
+use Rattle.recovery.specs.Numbering.{holderOf}
+use Rattle.recovery.specs.code.Tallies.{holdersBy, holderBy}
 
--- ---- definitions
+-- word n of the scratch is what node n uses, for each survivor below k
+pub record AgreesTo (g : Geometry) (w : View) (s : List ℕ) (k : ℕ) : Type 0 where
+  pub at : (n : ℕ) → n < k → live w n ≡ true → getD s n 0 ≡ used g w n 0
+
+-- while anything is left of the limit
+pub record Counts (g : Geometry) (lost : Lost) (left : ℕ) (t s : List ℕ) : Type 0 where
+  pub known : (left ≡ 0 → ⊥) → AgreesTo g (survivors lost (view g t)) s (g .nodes)
+
+-- what a node uses once its entry with this state word, Invalid, takes a partner: one more, unless a kept copy gives way to it
+unfoldable pub usedWith : ℕ → ℕ → ℕ
+usedWith n state = cond (eqb (keptOf state) invalid) (n + 1) n
+
+-- ---- what the functions of the partner stage promise. The frames in use are read from the scratch.
 
 -- a node that can take the partner of item b's copy, by the scratch
 unfoldable pub takesBy : Geometry → View → List ℕ → ℕ → ℕ → Bool
@@ -68,3 +83,28 @@ pub record FilledFrom (n k : ℕ) (u s s′ : List ℕ) : Type 0 where
   pub same : (i : ℕ) → i < k → getD s′ i 0 ≡ getD u i 0
   pub rest : drop n s′ ≡ drop n s
   pub size : length s′ ≡ length s
+
+-- ---- an item's turn in the partner stage finds its copies as they were at the stage's start; one with a holder of each number has no single copy.
+
+-- while anything is left of the limit: an item has one copy, and this holder
+pub record Single (g : Geometry) (lost : Lost) (left : ℕ) (t : List ℕ) (b holder : ℕ) : Type 0 where
+  pub one : (left ≡ 0 → ⊥) → count (copy (survivors lost (view g t)) b) (g .nodes) ≡ 1
+  pub is : (left ≡ 0 → ⊥) → holder ≡ holderOf g (survivors lost (view g t)) b
+
+-- how the items stand by their tallies: with two holders and more an item has not one copy, else it has one, and the tally tells its holder
+pub record Stands (g : Geometry) (w : View) (b tally : ℕ) : Type 0 where
+  pub skip : 1 < holdersBy tally → count (copy w b) (g .nodes) ≡ 1 → ⊥
+  pub single : holdersBy tally ≤ 1 → count (copy w b) (g .nodes) ≡ 1
+  pub holder : holdersBy tally ≤ 1 → holderBy tally ≡ holderOf g w b
+
+abbrev pub Settled : Geometry → View → List ℕ → Type 0
+Settled g w s = (b : ℕ) → b < g .items → Stands g w b (getD s b 0)
+
+pub record Settles (g : Geometry) (lost : Lost) (left : ℕ) (t s : List ℕ) : Type 0 where
+  pub settled : (left ≡ 0 → ⊥) → Settled g (survivors lost (view g t)) s
+
+-- what an item's turn needs
+pub record Passable (g : Geometry) (lost : Lost) (left : ℕ) (t s : List ℕ) (b tally : ℕ) : Type 0 where
+  pub ready : Ready g lost left t s
+  pub there : b < g .items
+  pub stands : (left ≡ 0 → ⊥) → Stands g (survivors lost (view g t)) b tally

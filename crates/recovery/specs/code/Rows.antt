@@ -7,6 +7,10 @@ use Rattle.table.specs.declared.geometry.Geometry.{Geometry}
 use Rattle.table.specs.Geometry.{wordsOf}
 use Rattle.table.specs.View.{View}
 use Rattle.entries.specs.code.Row.{rowState}
+use mathlib.Core.Bool.{Bool}
+use Rattle.counting.specs.Counting.{every, sum}
+use Rattle.table.specs.Words.{stateForm}
+use Rattle.entries.specs.Frames.{framesIn}
 
 -- the entry is there, and all words of the table
 abbrev pub HasEntry : Geometry → List ℕ → ℕ → ℕ → Type 0
@@ -51,3 +55,11 @@ pub record Rowed (h : ℕ → ℕ → ℕ) (i : ℕ) (s s′ : List ℕ) : Type 
   pub made : (j : ℕ) → j < i → getD s′ j 0 ≡ h j (getD s j 0)
   pub kept : (j : ℕ) → i ≤ j → getD s′ j 0 ≡ getD s j 0
   pub size : length s′ ≡ length s
+
+-- ---- the word forms and the frames of a survivor, by a pass over its occupied entries.
+
+-- the state words before item i are passed
+pub record RowTo (v : View) (n i : ℕ) (forms : Bool) (frames : ℕ) : Type 0 where
+  pub formed : forms ≡ every (λ b. stateForm (stateIn v n b)) i
+  pub in-use : frames ≡ sum (λ b. framesIn (stateIn v n b)) i
+  pub few : frames ≤ 2 * i

@@ -3,7 +3,7 @@ use Prim.Native.Nat.{ℕ, _+_, _-_, _*_, _/_, _≤_}
 use mathlib.Core.Path.{_≡_, refl}
 use native.Mathlib.Omega.{arith}
 use borrow.Author.Needs.{needs}
-use Rattle.entries.specs.code.RowFrames.{rowFrames}
+use Rattle.entries.specs.code.Row.{rowFrames}
 use Rattle.entries.proofs.Laws.RowFrames.{row-frames-none, row-frames-at, row-frames-four}
 use Rattle.entries.proofs.frames.fours_frames.Statement.{statement}
 use Rattle.entries.proofs.frames.fours_frames.Tie as tie
