@@ -70,28 +70,46 @@ pub calls-are :
 unfolding callBy callAt stepsTo
 calls-are = refl
 
-pub formatted : Formatted formattedTable
-unfolding every sum count first firstOr valuesOf geometryOf changeOf runs after view markTo marksTo backBy firstEntries formatStores formatMade framesIn framesAt used framesFit itemTest marksForm phasesOf pointsOf statesForm nodeSound nodesSound itemSound itemsSound sound lengthOf sizesOf soundOf faultOf planAdmitted planChecked planBy admissionOf frameFull frameAdmission changeTo commonMark isOpen openAdmission ownsAt ownerOf dirty dirtyItem liveChanges entriesBefore commitChange closeChange sharedAt sharedItem hasRoom placeFits fits nodeAfter fitsAfter passedOver homeOf droppedItem currentLeft arrivalOf dropStores arrivalChanges homeStoresBy homeStores servesAt serverOf fetchFrom readStores readValue otherChanges otherStores ownKeep keptAfter ownChanges writeStores sourceStores movedTo evictStores placeAdmission startAdmission sharesAt sharerOf createdPartner createItem noPartner createPlan commitStores createdAdmission exists survivorCount forwardIn copiesOn itemFits itemsFit bringBack settled rollChange rollStores holders numberAfter numberChange numberStores single holderOf takes takesAfter partnerOf partnerChanges partnerFrom partnerStores staged partnersStores largest largestNumber closingStores followed survivorStores recoverStores survivorsFormed tooFewWith tooFew recoverAdmission recoverChecked recoverOf planOf run
-formatted = record { nodes = 3; items = 1; frames = 2; allowed = refl; holds = refl }
+-- what the definitions give, by computation
+pub record Shown : Type 0 where
+  pub formatted : Formatted formattedTable
+  -- cut after 1 store and after 2: both are strikes, and 14 does not apply
+  pub sooner : Demanded formattedTable (script 1)
+  pub later : Demanded formattedTable (script 2)
+  pub room-sooner : tooFewLeft formattedTable (script 1) ≡ false
+  pub room-later : tooFewLeft formattedTable (script 2) ≡ false
+  -- "that commit cut after 1 store: lost node 0 gives 0"
+  pub saved-sooner :
+      savedIn (memory formattedTable formatted (wholeCalls formattedTable (script 1))
+      (strike formattedTable (script 1) sooner (hit-struck formattedTable (script 1) sooner))) 0 ≡ 0
+  -- "cut after 2 stores: lost node 0 gives 7"
+  pub saved-later :
+      savedIn (memory formattedTable formatted (wholeCalls formattedTable (script 2))
+      (strike formattedTable (script 2) later (hit-struck formattedTable (script 2) later))) 0 ≡ 7
 
-pub demanded : Demanded formattedTable (script 1)
-unfolding every sum count first firstOr valuesOf geometryOf changeOf runs after view markTo marksTo backBy firstEntries formatStores formatMade framesIn framesAt used framesFit itemTest marksForm phasesOf pointsOf statesForm nodeSound nodesSound itemSound itemsSound sound lengthOf sizesOf soundOf faultOf planAdmitted planChecked planBy admissionOf frameFull frameAdmission changeTo commonMark isOpen openAdmission ownsAt ownerOf dirty dirtyItem liveChanges entriesBefore commitChange closeChange sharedAt sharedItem hasRoom placeFits fits nodeAfter fitsAfter passedOver homeOf droppedItem currentLeft arrivalOf dropStores arrivalChanges homeStoresBy homeStores servesAt serverOf fetchFrom readStores readValue otherChanges otherStores ownKeep keptAfter ownChanges writeStores sourceStores movedTo evictStores placeAdmission startAdmission sharesAt sharerOf createdPartner createItem noPartner createPlan commitStores createdAdmission exists survivorCount forwardIn copiesOn itemFits itemsFit bringBack settled rollChange rollStores holders numberAfter numberChange numberStores single holderOf takes takesAfter partnerOf partnerChanges partnerFrom partnerStores staged partnersStores largest largestNumber closingStores followed survivorStores recoverStores survivorsFormed tooFewWith tooFew recoverAdmission recoverChecked recoverOf planOf run placeBy lostBy callBy callAt stepsTo
-demanded = record { formatted = formatted; cuttable = refl; one = refl; enough = omega arith }
-
-pub room : tooFewLeft formattedTable (script 1) ≡ false
-unfolding every sum count first firstOr valuesOf geometryOf changeOf runs after view markTo marksTo backBy firstEntries formatStores formatMade framesIn framesAt used framesFit itemTest marksForm phasesOf pointsOf statesForm nodeSound nodesSound itemSound itemsSound sound lengthOf sizesOf soundOf faultOf planAdmitted planChecked planBy admissionOf frameFull frameAdmission changeTo commonMark isOpen openAdmission ownsAt ownerOf dirty dirtyItem liveChanges entriesBefore commitChange closeChange sharedAt sharedItem hasRoom placeFits fits nodeAfter fitsAfter passedOver homeOf droppedItem currentLeft arrivalOf dropStores arrivalChanges homeStoresBy homeStores servesAt serverOf fetchFrom readStores readValue otherChanges otherStores ownKeep keptAfter ownChanges writeStores sourceStores movedTo evictStores placeAdmission startAdmission sharesAt sharerOf createdPartner createItem noPartner createPlan commitStores createdAdmission exists survivorCount forwardIn copiesOn itemFits itemsFit bringBack settled rollChange rollStores holders numberAfter numberChange numberStores single holderOf takes takesAfter partnerOf partnerChanges partnerFrom partnerStores staged partnersStores largest largestNumber closingStores followed survivorStores recoverStores survivorsFormed tooFewWith tooFew recoverAdmission recoverChecked recoverOf planOf run placeBy lostBy callBy callAt stepsTo nodeWordAt putTo hitNode hitSized hitBy
-room = refl
-
--- "that commit cut after 1 store: lost node 0 gives 0"
-pub saved-before : savedIn (memory formattedTable formatted (wholeCalls formattedTable (script 1)) (strike formattedTable (script 1) demanded (hit-struck formattedTable (script 1) demanded))) 0 ≡ 0
-unfolding every sum count first firstOr valuesOf geometryOf changeOf runs after view markTo marksTo backBy firstEntries formatStores formatMade framesIn framesAt used framesFit itemTest marksForm phasesOf pointsOf statesForm nodeSound nodesSound itemSound itemsSound sound lengthOf sizesOf soundOf faultOf planAdmitted planChecked planBy admissionOf frameFull frameAdmission changeTo commonMark isOpen openAdmission ownsAt ownerOf dirty dirtyItem liveChanges entriesBefore commitChange closeChange sharedAt sharedItem hasRoom placeFits fits nodeAfter fitsAfter passedOver homeOf droppedItem currentLeft arrivalOf dropStores arrivalChanges homeStoresBy homeStores servesAt serverOf fetchFrom readStores readValue otherChanges otherStores ownKeep keptAfter ownChanges writeStores sourceStores movedTo evictStores placeAdmission startAdmission sharesAt sharerOf createdPartner createItem noPartner createPlan commitStores createdAdmission exists survivorCount forwardIn copiesOn itemFits itemsFit bringBack settled rollChange rollStores holders numberAfter numberChange numberStores single holderOf takes takesAfter partnerOf partnerChanges partnerFrom partnerStores staged partnersStores largest largestNumber closingStores followed survivorStores recoverStores survivorsFormed tooFewWith tooFew recoverAdmission recoverChecked recoverOf planOf run formatted placeBy lostBy callBy callAt stepsTo commitsFrom memoryFrom
-saved-before = refl
-
-pub demanded-later : Demanded formattedTable (script 2)
-unfolding every sum count first firstOr valuesOf geometryOf changeOf runs after view markTo marksTo backBy firstEntries formatStores formatMade framesIn framesAt used framesFit itemTest marksForm phasesOf pointsOf statesForm nodeSound nodesSound itemSound itemsSound sound lengthOf sizesOf soundOf faultOf planAdmitted planChecked planBy admissionOf frameFull frameAdmission changeTo commonMark isOpen openAdmission ownsAt ownerOf dirty dirtyItem liveChanges entriesBefore commitChange closeChange sharedAt sharedItem hasRoom placeFits fits nodeAfter fitsAfter passedOver homeOf droppedItem currentLeft arrivalOf dropStores arrivalChanges homeStoresBy homeStores servesAt serverOf fetchFrom readStores readValue otherChanges otherStores ownKeep keptAfter ownChanges writeStores sourceStores movedTo evictStores placeAdmission startAdmission sharesAt sharerOf createdPartner createItem noPartner createPlan commitStores createdAdmission exists survivorCount forwardIn copiesOn itemFits itemsFit bringBack settled rollChange rollStores holders numberAfter numberChange numberStores single holderOf takes takesAfter partnerOf partnerChanges partnerFrom partnerStores staged partnersStores largest largestNumber closingStores followed survivorStores recoverStores survivorsFormed tooFewWith tooFew recoverAdmission recoverChecked recoverOf planOf run placeBy lostBy callBy callAt stepsTo
-demanded-later = record { formatted = formatted; cuttable = refl; one = refl; enough = omega arith }
-
--- "cut after 2 stores: lost node 0 gives 7"
-pub saved-after : savedIn (memory formattedTable formatted (wholeCalls formattedTable (script 2)) (strike formattedTable (script 2) demanded-later (hit-struck formattedTable (script 2) demanded-later))) 0 ≡ 7
-unfolding every sum count first firstOr valuesOf geometryOf changeOf runs after view markTo marksTo backBy firstEntries formatStores formatMade framesIn framesAt used framesFit itemTest marksForm phasesOf pointsOf statesForm nodeSound nodesSound itemSound itemsSound sound lengthOf sizesOf soundOf faultOf planAdmitted planChecked planBy admissionOf frameFull frameAdmission changeTo commonMark isOpen openAdmission ownsAt ownerOf dirty dirtyItem liveChanges entriesBefore commitChange closeChange sharedAt sharedItem hasRoom placeFits fits nodeAfter fitsAfter passedOver homeOf droppedItem currentLeft arrivalOf dropStores arrivalChanges homeStoresBy homeStores servesAt serverOf fetchFrom readStores readValue otherChanges otherStores ownKeep keptAfter ownChanges writeStores sourceStores movedTo evictStores placeAdmission startAdmission sharesAt sharerOf createdPartner createItem noPartner createPlan commitStores createdAdmission exists survivorCount forwardIn copiesOn itemFits itemsFit bringBack settled rollChange rollStores holders numberAfter numberChange numberStores single holderOf takes takesAfter partnerOf partnerChanges partnerFrom partnerStores staged partnersStores largest largestNumber closingStores followed survivorStores recoverStores survivorsFormed tooFewWith tooFew recoverAdmission recoverChecked recoverOf planOf run formatted placeBy lostBy callBy callAt stepsTo commitsFrom memoryFrom
-saved-after = refl
+pub shown : Shown
+unfolding every sum count first firstOr valuesOf geometryOf changeOf runs after view markTo marksTo backBy
+    firstEntries formatStores formatMade framesIn framesAt used framesFit itemTest marksForm phasesOf pointsOf
+    statesForm nodeSound nodesSound itemSound itemsSound sound lengthOf sizesOf soundOf faultOf planAdmitted
+    planChecked planBy admissionOf frameFull frameAdmission changeTo commonMark isOpen openAdmission ownsAt ownerOf
+    dirty dirtyItem liveChanges entriesBefore commitChange closeChange sharedAt sharedItem hasRoom placeFits fits
+    nodeAfter fitsAfter passedOver homeOf droppedItem currentLeft arrivalOf dropStores arrivalChanges homeStoresBy
+    homeStores servesAt serverOf fetchFrom readStores readValue otherChanges otherStores ownKeep keptAfter
+    ownChanges writeStores sourceStores movedTo evictStores placeAdmission startAdmission sharesAt sharerOf
+    createdPartner createItem noPartner createPlan commitStores createdAdmission exists survivorCount forwardIn
+    copiesOn itemFits itemsFit bringBack settled rollChange rollStores holders numberAfter numberChange numberStores
+    single holderOf takes takesAfter partnerOf partnerChanges partnerFrom partnerStores staged partnersStores
+    largest largestNumber closingStores followed survivorStores recoverStores survivorsFormed tooFewWith tooFew
+    recoverAdmission recoverChecked recoverOf planOf run placeBy lostBy callBy callAt stepsTo nodeWordAt putTo
+    hitNode hitSized hitBy commitsFrom memoryFrom
+shown =
+    let formatted : Formatted formattedTable = record { nodes = 3; items = 1; frames = 2; allowed = refl; holds = refl } in
+    record {
+      formatted = formatted;
+      sooner = record { formatted = formatted; cuttable = refl; one = refl; enough = omega arith };
+      later = record { formatted = formatted; cuttable = refl; one = refl; enough = omega arith };
+      room-sooner = refl;
+      room-later = refl;
+      saved-sooner = refl;
+      saved-later = refl;
+    }
