@@ -73,8 +73,8 @@ pub(crate) fn marks_to(table: &mut [u64], left: u64, g: Geometry, word: u64) -> 
     left
 }
 
-// A commit in an entry, of which this is the state word: one state store where Precommit or Inv-CK stands. Turned by four bits, the word of an
-// entry with no copy kept and no Precommit is its code, under 6.
+// A commit in an entry, of which this is the state word: one state store where Precommit or Inv-CK stands. With its four
+// top bits, the current place, moved to the end, the word of any other entry is that place's code, which is under 6.
 fn commit_entry(table: &mut [u64], left: u64, g: Geometry, node: u8, item: u16, state: u64) -> u64
     requires { ⌜ state ≡ view g (now table) .entry node item .state ⌝ }
     ensures { λ r. ⌜ StoredIn g left node item (commitChange (view g (now (table .entry)) .entry node item)) (now (table .entry)) (now (table .exit)) r ⌝ }

@@ -60,7 +60,8 @@ fn frames_at(table: &[u64], g: Geometry, node: u8, set: u8, item: u16) -> usize
     0
 }
 
-// The frames of an entry, by a digit for each value of the six top bits of its state word, the current and the kept code.
+// The frames of an entry, by a digit for each value of the six top bits of its state word, the current and the kept
+// code.
 fn frames_by(digits: &[u8], state: u64) -> usize
     requires { ⌜ now digits ≡ frameDigits ⌝ }
     ensures { λ r. ⌜ (r ≡ framesIn state) × (r ≤ 2) ⌝ }
@@ -165,7 +166,8 @@ fn ample(g: Geometry, item: u16) -> bool
     (item < items) & (2 * (items as usize) <= frames)
 }
 
-// Whether a node has a frame free for an item: counted only where frames are not ample, or both places of the item's entry are filled.
+// Whether a node has a frame free for an item: counted only where frames are not ample, or both places of the item's
+// entry are filled.
 pub fn frame_free(table: &[u64], g: Geometry, node: u8, item: u16) -> bool
     ensures { λ r. ⌜ r ≡ frameFree g (view g (now (table .entry))) node item ⌝ }
 {

@@ -1,5 +1,6 @@
-// The survey of a table by rows, in memory order. Of each row the entries that hold something are gathered, and only these are looked at: each adds its
-// weight to its item's tally, and its values are compared with the first that the item had.
+// The survey of a table by rows, in memory order. Of each row the entries that hold something are gathered, and only
+// these are looked at: each adds its weight to its item's tally, and its values are compared with the first that the
+// item had.
 ghost use mathlib.Core.Path.{_≡_};
 ghost use Prim.Native.Nat.{_+_, _*_, _/_, _%_, _^_, _<_, _≤_};
 ghost use lib.ListN.{length, getD};
@@ -15,8 +16,8 @@ use counting::choice;
 use table::geometry::Geometry;
 use table::stores;
 
-// What entries tell: the frames that they use, and 1024 for each whose codes are out of form; the other bits of their state words and those in which their
-// values differ from the ones before.
+// What entries tell: the frames that they use, and 1024 for each whose codes are out of form; the other bits of their
+// state words and those in which their values differ from the ones before.
 struct Turn {
     frames: u64,
     differ: u64,
@@ -242,7 +243,8 @@ fn rows_sound(table: &[u64], g: Geometry, list: &mut [u16], notes: &mut [u64]) -
     ok
 }
 
-// The tally of a created item, without its copies, in phase 1; in the others, where no item is created, that of an owned one.
+// The tally of a created item, without its copies, in phase 1; in the others, where no item is created, that of an
+// owned one.
 fn created_tally(phase: u64) -> u64
     ensures { λ r. ⌜ r ≡ createdTally phase ⌝ }
 {
@@ -261,7 +263,8 @@ fn kind_sound(tally: u64, created: u64) -> bool
     (apart == 0x210_0000) | (((t == 0x10_0421) | (apart == 0x421)) | (apart == created))
 }
 
-// Whether each item is clean, dirty, or, in phase 1 only, created, by the tallies, from the last item down; and the lowest with an Owner or a Modified.
+// Whether each item is clean, dirty, or, in phase 1 only, created, by the tallies, from the last item down; and the
+// lowest with an Owner or a Modified.
 fn kinds_sound(notes: &[u64], items: u16, phase: u64) -> Findings
     requires { ⌜ 3 * items ≤ length (now notes) ⌝ }
     ensures { λ r. ⌜ KindsFound (now (notes .entry)) items phase r ⌝ }
@@ -331,7 +334,8 @@ fn survey_256(table: &[u64], g: Geometry, phase: u64) -> Findings
     survey_in(table, g, phase, &mut list, &mut notes)
 }
 
-// Whether nodes and items are sound, and if they are, the lowest dirty item that is not created. The list and the notes are as long as the items ask for.
+// Whether nodes and items are sound, and if they are, the lowest dirty item that is not created. The list and the
+// notes are as long as the items ask for.
 pub(crate) fn survey(table: &[u64], g: Geometry, phase: u64) -> Findings
     requires { ⌜ Surveyable g (now table) ⌝ }
     ensures { λ r. ⌜ Found g (view g (now (table .entry))) phase r ⌝ }

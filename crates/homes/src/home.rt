@@ -10,8 +10,8 @@ use table::geometry::Geometry;
 use table::words::INVALID;
 use table::words::SHARED;
 
-// What a home makes of a copy that comes: whether it takes it over; whether it drops a Shared copy first, of which item, and the state
-// word that it is dropped from; its own places of the copy's item from then on.
+// What a home makes of a copy that comes: whether it takes it over; whether it drops a Shared copy first, of which
+// item, and the state word that it is dropped from; its own places of the copy's item from then on.
 pub struct Arrival {
     pub takeover: bool,
     pub drops: bool,
@@ -88,7 +88,8 @@ fn next_node(nodes: u8, n: u8) -> u8
     n + 1
 }
 
-// The first live node after `node`, cyclically, that can take the copy; `node` itself if there is none, or if it is no node of the table.
+// The first live node after `node`, cyclically, that can take the copy; `node` itself if there is none, or if it is no
+// node of the table.
 pub fn home_of(table: &[u64], g: Geometry, place: Place, node: u8, item: u16) -> u8
     ensures { λ r. ⌜ r ≡ homeFrom g (view g (now (table .entry))) place node item ⌝ }
 {

@@ -12,8 +12,8 @@ use table::geometry::Made;
 use table::stores;
 use table::words;
 
-// The entries of a node, items ascending: Shared-CK1 on node 2b mod N, Shared-CK2 on the next. The node is `node` ahead of node 0, where item 0
-// has its first copy.
+// The entries of a node, items ascending: Shared-CK1 on node 2b mod N, Shared-CK2 on the next. The node is `node`
+// ahead of node 0, where item 0 has its first copy.
 fn format_node(table: &mut [u64], left: u64, g: Geometry, node: u8) -> u64
     requires { ⌜ (2 ≤ g .nodes) × (node < g .nodes) ⌝ }
     ensures { λ r. ⌜ Stored g left (runs (λ b. map (entryStore node b) (firstEntry g node b)) (g .items)) (now (table .entry)) (now (table .exit)) r ⌝ }

@@ -3,8 +3,8 @@ ghost use lib.ListN.{length};
 ghost use Rattle.linkspan.specs.Report.{recoverAsked, RecoverReports};
 use crate::report;
 
-// Brings the survivors back to the last recovery point, or on to the new one. `none` is 1 where no node was lost, then `lost` is not used, and 0 where
-// `lost` was; any other `none` is answered 18.
+// Brings the survivors back to the last recovery point, or on to the new one. `none` is 1 where no node was lost, then
+// `lost` is not used, and 0 where `lost` was; any other `none` is answered 18.
 #[no_mangle]
 pub extern "C" fn linkspan_recover(
     table: &mut [u64],

@@ -1,4 +1,5 @@
-// The census of the survivors: one pass over their occupied entries for all that a recovery has to know of them before its first store.
+// The census of the survivors: one pass over their occupied entries for all that a recovery has to know of them before
+// its first store.
 ghost use mathlib.Core.Path.{_≡_};
 ghost use mathlib.Core.Bool.{true, false};
 ghost use Prim.Native.Nat.{_+_, _^_, _<_, _≤_};
@@ -16,8 +17,8 @@ use survivors::nodes;
 use table::geometry::Geometry;
 use table::words;
 
-// What a row tells: whether the state words have their form, the frames in use, how many recovery copies of the side are there, and
-// whether each has the value of the first of its item.
+// What a row tells: whether the state words have their form, the frames in use, how many recovery copies of the side
+// are there, and whether each has the value of the first of its item.
 pub(crate) struct Turn {
     pub(crate) forms: bool,
     pub(crate) frames: usize,
@@ -25,23 +26,25 @@ pub(crate) struct Turn {
     pub(crate) agree: bool,
 }
 
-// What an entry tells: its weight, the other bits of its state word, and those in which a recovery copy of the side differs from the first of its item.
+// What an entry tells: its weight, the other bits of its state word, and those in which a recovery copy of the side
+// differs from the first of its item.
 pub(crate) struct Note {
     pub(crate) weight: u64,
     pub(crate) low: u64,
     pub(crate) differ: u64,
 }
 
-// What all survivors tell: whether word forms and frames hold, whether each item has a recovery copy on the side and no two that differ, and whether no
-// item has two of one number.
+// What all survivors tell: whether word forms and frames hold, whether each item has a recovery copy on the side and
+// no two that differ, and whether no item has two of one number.
 pub(crate) struct Census {
     pub(crate) formed: bool,
     pub(crate) fit: bool,
     pub(crate) plain: bool,
 }
 
-// The weight of an entry on the way forward, by the six top bits of its state word, the current and the kept code. Its digits, ten bits each: the frames
-// in use; whether the recovery copy has number 1; number 2; whether the codes are out of form; whether it is the kept copy; whether there is one.
+// The weight of an entry on the way forward, by the six top bits of its state word, the current and the kept code. Its
+// digits, ten bits each: the frames in use; whether the recovery copy has number 1; number 2; whether the codes are
+// out of form; whether it is the kept copy; whether there is one.
 fn forward_weight(top: u8) -> u64
     requires { ⌜ top < 64 ⌝ }
     ensures { λ r. ⌜ r ≡ sideBits true top ⌝ }
@@ -275,7 +278,8 @@ fn note_row(
     }
 }
 
-// What a node's turn tells of the survivors: whether mark, state words and frames hold, and whether its recovery copies agree with those before.
+// What a node's turn tells of the survivors: whether mark, state words and frames hold, and whether its recovery
+// copies agree with those before.
 pub(crate) struct Found {
     pub(crate) formed: bool,
     pub(crate) agree: bool,

@@ -1,4 +1,5 @@
-// Numbering: of each item one survivor keeps Shared-CK1 and one Shared-CK2, where it has two copies; further copies go Invalid.
+// Numbering: of each item one survivor keeps Shared-CK1 and one Shared-CK2, where it has two copies; further copies go
+// Invalid.
 ghost use mathlib.Core.Path.{_≡_};
 ghost use lib.Dec.{eqb};
 ghost use lib.ListN.{length};
@@ -93,7 +94,8 @@ fn holders_of(table: &[u64], g: Geometry, lost: Lost, item: u16) -> Holders
     all
 }
 
-// The code that a copy with this number gets, after so many lower holders of its number, where the other number has so many.
+// The code that a copy with this number gets, after so many lower holders of its number, where the other number has so
+// many.
 fn number_after(number: u8, lower: u64, others: u64) -> u8
     requires { ⌜ number < 3 ⌝ }
     ensures { λ r. ⌜ r ≡ numberAfter number lower others ⌝ }

@@ -1,5 +1,5 @@
-// The third stage of a recovery: a single copy gets its partner. The frames in use of each survivor stand in the first words of the scratch, one a
-// node, so that a partner is found in one turn over the nodes.
+// The third stage of a recovery: a single copy gets its partner. The frames in use of each survivor stand in the first
+// words of the scratch, one a node, so that a partner is found in one turn over the nodes.
 ghost use mathlib.Core.Path.{_≡_};
 ghost use Prim.Native.Nat.{_≤_, _<_, _-_};
 ghost use lib.ListN.{length};
@@ -125,7 +125,8 @@ fn store_partner(table: &mut [u64], left: u64, g: Geometry, partner: u8, item: u
     stores::store_state(table, left, g, partner, item, code, words::INVALID)
 }
 
-// What a node uses once its Invalid entry with this state word takes a partner: one frame more, unless a kept copy gives way to it.
+// What a node uses once its Invalid entry with this state word takes a partner: one frame more, unless a kept copy
+// gives way to it.
 fn used_with(used: u64, state: u64) -> u64
     requires { ⌜ used < 65536 ⌝ }
     ensures { λ r. ⌜ r ≡ usedWith used state ⌝ }
@@ -180,7 +181,8 @@ fn partner_item(
     left
 }
 
-// An item's turn, by its tally before the numbering: with two holders and more it has a pair now, else a single copy, whose holder the tally tells.
+// An item's turn, by its tally before the numbering: with two holders and more it has a pair now, else a single copy,
+// whose holder the tally tells.
 fn partner_turn(
     table: &mut [u64],
     left: u64,

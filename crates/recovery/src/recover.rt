@@ -33,7 +33,8 @@ fn scratch_words(g: Geometry) -> usize
     g.items as usize + g.nodes as usize
 }
 
-// 4 no such node; 16 scratch too short; 2 a survivor's word forms or frames; 14 too few survivors; 15 no recovery copy, or two that differ.
+// 4 no such node; 16 scratch too short; 2 a survivor's word forms or frames; 14 too few survivors; 15 no recovery
+// copy, or two that differ.
 fn admit_recover(
     table: &[u64],
     g: Geometry,
@@ -66,8 +67,8 @@ fn admit_recover(
     Admission::Admitted
 }
 
-// Numbering, then partners, by the tallies of the census. Where no item has two recovery copies of one number, numbering has nothing to do, and the
-// frames in use are those of the census too.
+// Numbering, then partners, by the tallies of the census. Where no item has two recovery copies of one number,
+// numbering has nothing to do, and the frames in use are those of the census too.
 fn pair(
     table: &mut [u64],
     left: u64,

@@ -102,7 +102,8 @@ fn roll_change(
     settle(table, left, g, node, item, state, next)
 }
 
-// A node's entries, items ascending: those in the list, for the others stay as they are. The node's first entry is at word `start`.
+// A node's entries, items ascending: those in the list, for the others stay as they are. The node's first entry is at
+// word `start`.
 fn roll_listed(
     table: &mut [u64],
     left: u64,

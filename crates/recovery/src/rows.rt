@@ -1,4 +1,5 @@
-// The occupied entries of a node: most entries are Invalid with nothing kept, their state words 0, and a recovery has nothing to do at them.
+// The occupied entries of a node: most entries are Invalid with nothing kept, their state words 0, and a recovery has
+// nothing to do at them.
 ghost use mathlib.Core.Path.{_≡_};
 ghost use Prim.Native.Nat.{_+_, _*_, _/_, _<_, _≤_};
 ghost use lib.ListN.{length};

@@ -138,7 +138,8 @@ fn strike(table: &mut [u64], call: Call, limit: u64, lost: Lost, words: &[u64], 
     hit(table, lost, words);
 }
 
-// Whole calls, a call that is cut, a hit, recoveries broken off and a whole one: each item is then on two nodes, as it was saved.
+// Whole calls, a call that is cut, a hit, recoveries broken off and a whole one: each item is then on two nodes, as it
+// was saved.
 pub fn rehearse(
     table: &mut [u64],
     calls: &[u64],

@@ -1,4 +1,5 @@
-// Reading and storing words of the table. One function stores, and it alone looks at the limit; the others say which word they mean.
+// Reading and storing words of the table. One function stores, and it alone looks at the limit; the others say which
+// word they mean.
 ghost use mathlib.Core.Path.{_≡_};
 ghost use mathlib.Core.List.{[], _∷_};
 ghost use lib.ListN.{getD};

@@ -5,7 +5,8 @@ ghost use lib.ListN.{length};
 // The most words that are read at a time.
 const MOST: usize = 8000;
 
-// A vector's header. The table's words follow, then the places and the words of those that the call changes, then the scratch before and after.
+// A vector's header. The table's words follow, then the places and the words of those that the call changes, then the
+// scratch before and after.
 pub(crate) struct Vector {
     pub operation: u64,
     pub first: u64,
