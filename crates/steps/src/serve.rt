@@ -1,7 +1,7 @@
 // A step carried out on quay's table.
 ghost use mathlib.Core.Path.{_≡_};
 ghost use Rattle.restore.specs.Run.{isFormat};
-ghost use Rattle.steps.specs.Run.{quay, counted as Serving·counted, StepServed};
+ghost use Rattle.steps.specs.Run.{quay, counted as Run·counted, StepServed};
 ghost use Rattle.steps.specs.declared.decode.Step.the-variants.{Asked};
 ghost use Rattle.steps.specs.code.ServingCode.{isDone, CarriedLent};
 use crate::decode::Step;
@@ -79,7 +79,7 @@ fn carry_lent(table: &mut [u64], scratch: &mut [u64], whole: bool, call: Call) -
 
 // One record later.
 fn counted(progress: Progress, formatted: bool) -> Progress
-    ensures { λ r. ⌜ r ≡ Serving·counted progress formatted ⌝ }
+    ensures { λ r. ⌜ r ≡ Run·counted progress formatted ⌝ }
 {
     let records = std::num::wrapping_add_u64(progress.records, 1);
     Progress { formatted, records }

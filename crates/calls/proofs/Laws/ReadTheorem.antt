@@ -16,7 +16,7 @@ use Rattle.homes.proofs.Laws.Plans.{Carried, acted-carried, acted-value}
 use Rattle.calls.specs.Read.{fetches, readAdmission, readStores, readValue, readOf}
 use Rattle.homes.proofs.Laws.Kept.{Kept}
 use Rattle.calls.proofs.Laws.ReadDone.{Answered, ReadDone}
-use Rattle.calls.proofs.Laws.ReadVia.{read-answers, read-via, safe-kept}
+use Rattle.calls.proofs.Laws.ReadVia.{value-answered, read-via, safe-kept}
 
 module _ (t : List ℕ) (n b : ℕ) {g : Geometry} {value : ℕ} {ss : List Store} (accepted : readOf t n b ≡ carry g value ss) where
   pub carried : Carried (λ g v. readAdmission g v n b) (λ g v. readStores g v n b) t g ss
@@ -40,7 +40,7 @@ module _ (t : List ℕ) (n b : ℕ) {g : Geometry} {value : ℕ} {ss : List Stor
 
   -- what it answers
   pub read-value : Answered g n b (view g t) value
-  read-value = subst (Answered g n b (view g t)) (sym value-is) (read-answers g (view g t) _ _ n b (facts .table) admits)
+  read-value = subst (Answered g n b (view g t)) (sym value-is) (value-answered g (view g t) _ _ n b (facts .table) admits)
 
   -- after all of them
   pub read-read : (limit : ℕ) → length ss ≤ limit → ReadDone g n b (view g t) (view g (after g limit ss t))

@@ -52,9 +52,9 @@ module _ (g : Geometry) (v : View) (phase number n b : ℕ) (good : SoundTable g
   server-other z e = server-copy (ap (λ k. current (v .entry k b)) e ∙ z)
 
   -- ---- the value
-  pub read-answers : Answered g n b v (readValue g v n b)
+  pub value-answered : Answered g n b v (readValue g v n b)
   unfolding readValue
-  read-answers = record {
+  value-answered = record {
     own = λ d. rw (ne-eqb (current (v .entry n b)) invalid d);
     serving = λ z. serving;
     served = λ z. rw (eq-eqb (current (v .entry n b)) invalid z);

@@ -116,9 +116,9 @@ module _ (g : Geometry) (w : View) (s : List ℕ) (b n i : ℕ) (so : first (tak
     unfolding takesByAfter
     test e = sym (q ∙ ap (takesBy g w s b) p) ∙ e
 
-    pub partner-found : i < g .nodes - 1 → found ≡ true → h ≡ partnerBy g w s b n
+    pub partner-here : i < g .nodes - 1 → found ≡ true → h ≡ partnerBy g w s b n
     unfolding partnerBy
-    partner-found l e = p ∙ ap (nodeAfter g n) (sym (first-found (takesByAfter g w s b n) i (g .nodes - 1) so (test e) l))
+    partner-here l e = p ∙ ap (nodeAfter g n) (sym (first-found (takesByAfter g w s b n) i (g .nodes - 1) so (test e) l))
 
     pub partner-on : found ≡ false → first (takesByAfter g w s b n) (i + 1) ≡ i + 1
     partner-on e = first-turns (takesByAfter g w s b n) i so (test e)

@@ -7,7 +7,7 @@ use Rattle.counting.proofs.Laws.First.{first-starts}
 use Rattle.table.specs.View.{view}
 use Rattle.survivors.specs.Survivors.{survivors}
 use Rattle.recovery.specs.code.PartnersCode.{takesByAfter}
-use Rattle.recovery.proofs.Laws.PartnersCode.{partner-found, partner-on, partner-none, found, after-entry}
+use Rattle.recovery.proofs.Laws.PartnersCode.{partner-here, partner-on, partner-none, found, after-entry}
 use borrow.Author.Needs.{needs}
 use Rattle.recovery.proofs.partners.partner_of.Statement.{statement}
 use Rattle.recovery.proofs.partners.partner_of.Tie as tie
@@ -30,7 +30,7 @@ returns c =
     let n = c .before .before in
     let l = n .before in
     let o = l .before .before .before .before .before in
-    found _ _ _ _ _ (search needs) (o .pre .0) (partner-found _ _ _ _ _ _ (l .before .loop .inv .1) (n .node-after .ensures) (c .before .can-take .ensures) (l .loop-test .taken) (c .if1 .taken))
+    found _ _ _ _ _ (search needs) (o .pre .0) (partner-here _ _ _ _ _ _ (l .before .loop .inv .1) (n .node-after .ensures) (c .before .can-take .ensures) (l .loop-test .taken) (c .if1 .taken))
 
 loop-again : tie.Need-loop-again Inv-loop μ-loop
 loop-again c =
