@@ -37,9 +37,9 @@ planFor q call = planOf (lent q call) (length (q .scratch)) call
 
 -- "answer (0 if carried out), value, stores", of the whole call; "A record that breaks this, any other operation, or a
 -- cut-off last record gives answer 18."
-abbrev pub numbersBy : Quay → Step → Numbers
-numbersBy q (Asked call) = numbersAt (planFor q call) (storeCount (planFor q call))
-numbersBy q Malformed = malformedNumbers
+abbrev pub lineNumbers : Quay → Step → Numbers
+lineNumbers q (Asked call) = numbersAt (planFor q call) (storeCount (planFor q call))
+lineNumbers q Malformed = malformedNumbers
 
 -- the table, of which a call that is lent an empty one has no word
 abbrev pub tableAfter : Quay → Call → List ℕ
@@ -53,15 +53,15 @@ formattedAfter q call = q .progress .formatted || (isFormat call && accepted (pl
 abbrev pub counted : Progress → Bool → Progress
 counted p formatted = record { formatted = formatted; records = (p .records + 1) % 2 ^ 64 }
 
-abbrev pub served : Quay → Step → Quay
-served q (Asked call) =
+abbrev pub quayAfter : Quay → Step → Quay
+quayAfter q (Asked call) =
     quay (tableAfter q call) (scratchBy call (planFor q call) (q .scratch)) (counted (q .progress) (formattedAfter q call))
-served q Malformed = quay (q .table) (q .scratch) (counted (q .progress) (q .progress .formatted))
+quayAfter q Malformed = quay (q .table) (q .scratch) (counted (q .progress) (q .progress .formatted))
 
 -- THE CONTRACT of serving a step
 pub record StepServed (q : Quay) (step : Step) (q′ : Quay) (numbers : Numbers) : Type 0 where
-  pub state : q′ ≡ served q step
-  pub line : numbers ≡ numbersBy q step
+  pub state : q′ ≡ quayAfter q step
+  pub line : numbers ≡ lineNumbers q step
 
 -- ---- THE DEFINITION of the program quay: the bytes of its file to the bytes of its lines.
 
@@ -70,28 +70,28 @@ abbrev pub recordCount : List ℕ → ℕ
 recordCount bytes = (length bytes + 15) / 16
 
 -- the steps of the first k records
-unfoldable pub stepsTo : ℕ → List ℕ → List Step
-stepsTo zero bytes = []
-stepsTo (suc k) bytes = recordOf bytes ∷ stepsTo k (drop 16 bytes)
+unfoldable pub stepsUpTo : ℕ → List ℕ → List Step
+stepsUpTo zero bytes = []
+stepsUpTo (suc k) bytes = recordOf bytes ∷ stepsUpTo k (drop 16 bytes)
 
 abbrev pub stepsIn : List ℕ → List Step
-stepsIn bytes = stepsTo (recordCount bytes) bytes
+stepsIn bytes = stepsUpTo (recordCount bytes) bytes
 
 -- a line for each step, and what is left after the last
 unfoldable pub linesBy : Quay → List Step → List ℕ
 linesBy q [] = []
-linesBy q (step ∷ steps) = lineBytes (q .progress .records) (numbersBy q step) ++ linesBy (served q step) steps
+linesBy q (step ∷ steps) = lineBytes (q .progress .records) (lineNumbers q step) ++ linesBy (quayAfter q step) steps
 
-unfoldable pub servedAll : Quay → List Step → Quay
-servedAll q [] = q
-servedAll q (step ∷ steps) = servedAll (served q step) steps
+unfoldable pub quayAfterAll : Quay → List Step → Quay
+quayAfterAll q [] = q
+quayAfterAll q (step ∷ steps) = quayAfterAll (quayAfter q step) steps
 
 -- of bytes
 abbrev pub linesOf : Quay → List ℕ → List ℕ
 linesOf q bytes = linesBy q (stepsIn bytes)
 
 abbrev pub leftBy : Quay → List ℕ → Quay
-leftBy q bytes = servedAll q (stepsIn bytes)
+leftBy q bytes = quayAfterAll q (stepsIn bytes)
 
 abbrev pub atStart : Progress
 atStart = record { formatted = false; records = 0 }

@@ -9,36 +9,36 @@ use lib.Seq.{length-take-le, take-all, take-append-seam, drop-drop, drop-append-
 use Rattle.table.specs.declared.answers.Numbers.{Numbers}
 use Rattle.steps.specs.declared.decode.Step.{Step}
 use Rattle.steps.specs.Steps.{recordOf}
-use Rattle.steps.specs.Run.{Quay, served, numbersBy, StepServed, recordCount, stepsTo, stepsIn, linesBy, servedAll, linesOf, leftBy, start, RecordsRun}
+use Rattle.steps.specs.Run.{Quay, quayAfter, lineNumbers, StepServed, recordCount, stepsUpTo, stepsIn, linesBy, quayAfterAll, linesOf, leftBy, start, RecordsRun}
 use Rattle.steps.specs.Lines.{lineBytes, BytesPut}
 use Rattle.steps.specs.code.RunCode.{PutAt, StepRun, RunTo}
 use Rattle.steps.proofs.Laws.Lines.{line-short}
 
 -- ---- steps that follow each other
 
-pub by-then : (q : Quay) (xs ys : List Step) → linesBy q (xs ++ ys) ≡ linesBy q xs ++ linesBy (servedAll q xs) ys
-unfolding linesBy servedAll
+pub by-then : (q : Quay) (xs ys : List Step) → linesBy q (xs ++ ys) ≡ linesBy q xs ++ linesBy (quayAfterAll q xs) ys
+unfolding linesBy quayAfterAll
 by-then q [] ys = refl
 by-then q (x ∷ xs) ys =
-    ap (λ (l : List ℕ). lineBytes (q .progress .records) (numbersBy q x) ++ l) (by-then (served q x) xs ys)
-    ∙ sym (append-assoc (lineBytes (q .progress .records) (numbersBy q x)) (linesBy (served q x) xs) (linesBy (servedAll (served q x) xs) ys))
+    ap (λ (l : List ℕ). lineBytes (q .progress .records) (lineNumbers q x) ++ l) (by-then (quayAfter q x) xs ys)
+    ∙ sym (append-assoc (lineBytes (q .progress .records) (lineNumbers q x)) (linesBy (quayAfter q x) xs) (linesBy (quayAfterAll (quayAfter q x) xs) ys))
 
-pub all-then : (q : Quay) (xs ys : List Step) → servedAll q (xs ++ ys) ≡ servedAll (servedAll q xs) ys
-unfolding servedAll
+pub all-then : (q : Quay) (xs ys : List Step) → quayAfterAll q (xs ++ ys) ≡ quayAfterAll (quayAfterAll q xs) ys
+unfolding quayAfterAll
 all-then q [] ys = refl
-all-then q (x ∷ xs) ys = all-then (served q x) xs ys
+all-then q (x ∷ xs) ys = all-then (quayAfter q x) xs ys
 
 -- ---- the steps of bytes
 
 -- the first record, and those of the bytes after it
 pub steps-next : (bytes : List ℕ) → 0 < length bytes → stepsIn bytes ≡ recordOf bytes ∷ stepsIn (drop 16 bytes)
-unfolding stepsTo
+unfolding stepsUpTo
 steps-next bytes h =
     let n : recordCount bytes ≡ suc (recordCount (drop 16 bytes)) = rw length-drop (omega arith) in
     rw n refl
 
 pub steps-none : (bytes : List ℕ) → length bytes ≤ 0 → stepsIn bytes ≡ []
-unfolding stepsTo
+unfolding stepsUpTo
 steps-none bytes h = let n : recordCount bytes ≡ 0 = omega arith in rw n refl
 
 -- a whole record, whatever follows it
@@ -70,7 +70,7 @@ record-front a b h =
     at i k = List·getD-append a b 0 i (omega arith)
 
 steps-then : (k : ℕ) (a b : List ℕ) → length a ≡ 16 * k → stepsIn (a ++ b) ≡ stepsIn a ++ stepsIn b
-unfolding stepsTo
+unfolding stepsUpTo
 steps-then zero [] b h = refl
 steps-then zero (x ∷ xs) b h = absurd (omega arith)
 steps-then (suc k) a b h =
@@ -87,7 +87,7 @@ module _ (q : Quay) (k : ℕ) (a b : List ℕ) (whole : length a ≡ 16 * k) whe
   lines-then = ap (linesBy q) (steps-then k a b whole) ∙ by-then q (stepsIn a) (stepsIn b)
 
   pub left-then : leftBy q (a ++ b) ≡ leftBy (leftBy q a) b
-  left-then = ap (servedAll q) (steps-then k a b whole) ∙ all-then q (stepsIn a) (stepsIn b)
+  left-then = ap (quayAfterAll q) (steps-then k a b whole) ∙ all-then q (stepsIn a) (stepsIn b)
 
 -- ---- the code
 
@@ -119,7 +119,7 @@ module _ (q₀ : Quay) (bytes out₀ : List ℕ) (small : length bytes ≤ 1024)
       {q q′ : Quay} {out out′ : List ℕ} {at to r : ℕ} {step : Step} → RunTo q₀ bytes out₀ q out at to
       → at < length bytes → step ≡ recordOf (drop at bytes)
       → StepRun q step q′ out to out′ r → RunTo q₀ bytes out₀ q′ out′ (at + 16) r
-  unfolding linesBy servedAll
+  unfolding linesBy quayAfterAll
   run-next {q} {q′} {out} {out′} {at} {to} {r} {step} s h e o = record {
     state = rw (o .state, e) (rw next at (s .state));
     lines = rw (o .line .start, o .state, e, append-assoc) (rw next at (s .lines));
@@ -127,7 +127,7 @@ module _ (q₀ : Quay) (bytes out₀ : List ℕ) (small : length bytes ≤ 1024)
     size = o .line .size ∙ s .size;
     whole = omega (arith, s .whole);
     within = omega arith;
-    room = omega (arith, s .room, o .line .end, line-short (q .progress .records) (numbersBy q step));
+    room = omega (arith, s .room, o .line .end, line-short (q .progress .records) (lineNumbers q step));
   }
     where
       next : stepsIn (drop at bytes) ≡ recordOf (drop at bytes) ∷ stepsIn (drop (at + 16) bytes)
@@ -135,12 +135,12 @@ module _ (q₀ : Quay) (bytes out₀ : List ℕ) (small : length bytes ≤ 1024)
 
       further : drop r out ≡ drop r out₀
       further =
-          let l = lineBytes (q .progress .records) (numbersBy q step) in
+          let l = lineBytes (q .progress .records) (lineNumbers q step) in
           rw (o .line .end, ← drop-drop (length l) to out, ← drop-drop (length l) to out₀) (ap (drop (length l)) (s .rest))
 
   pub run-end : {q : Quay} {out : List ℕ} {at to : ℕ} → RunTo q₀ bytes out₀ q out at to → length bytes ≤ at
       → RecordsRun q₀ bytes q out₀ out to
-  unfolding linesBy servedAll
+  unfolding linesBy quayAfterAll
   run-end {q} {out} {at} {to} s h = record {
     state = rw none at (s .state);
     lines = record { buffer = sym (take-append-drop to out) ∙ rw (s .rest, all, n) refl; count = n };

@@ -12,7 +12,7 @@ use Rattle.survivors.specs.Survivors.{lostBy}
 use Rattle.restore.specs.Operations.{callBy}
 use Rattle.steps.specs.Steps.{unusedZero, formatStep, callStep, stepOf, recordOf}
 use Rattle.steps.specs.Lines.{digitsIn, decimalOf, lineBytes}
-use Rattle.steps.specs.Run.{stepsTo, stepsIn}
+use Rattle.steps.specs.Run.{stepsUpTo, stepsIn}
 
 -- the first word of operation o, node n, item b, place p
 abbrev word : (o n b p : ℕ) → ℕ
@@ -135,5 +135,5 @@ longest = refl
 
 -- two records and a cut-off one: three steps
 pub three-steps : stepsIn (34 ∷ replicate 15 0 ++ (64 ∷ replicate 15 0) ++ (64 ∷ [])) ≡ Asked (Write 2 0 0) ∷ Asked Open ∷ Malformed ∷ []
-unfolding placeBy lostBy callBy unusedZero formatStep callStep stepOf recordOf stepsTo
+unfolding placeBy lostBy callBy unusedZero formatStep callStep stepOf recordOf stepsUpTo
 three-steps = refl

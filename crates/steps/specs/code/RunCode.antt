@@ -4,7 +4,7 @@ use mathlib.Core.Path.{_≡_}
 use mathlib.Core.List.{List, _++_}
 use lib.ListN.{length, take, drop}
 use Rattle.steps.specs.declared.decode.Step.{Step}
-use Rattle.steps.specs.Run.{Quay, numbersBy, served, stepsIn, linesBy, servedAll, linesOf, leftBy}
+use Rattle.steps.specs.Run.{Quay, lineNumbers, quayAfter, stepsIn, linesBy, quayAfterAll, linesOf, leftBy}
 use Rattle.steps.specs.Lines.{lineBytes}
 
 -- bytes put at a place: what is before them and after them stays; the answer is the place after them
@@ -16,12 +16,12 @@ pub record PutAt (out : List ℕ) (at : ℕ) (bytes out′ : List ℕ) (r : ℕ)
 
 -- a step served, and its line put at a place
 pub record StepRun (q : Quay) (step : Step) (q′ : Quay) (out : List ℕ) (at : ℕ) (out′ : List ℕ) (r : ℕ) : Type 0 where
-  pub state : q′ ≡ served q step
-  pub line : PutAt out at (lineBytes (q .progress .records) (numbersBy q step)) out′ r
+  pub state : q′ ≡ quayAfter q step
+  pub line : PutAt out at (lineBytes (q .progress .records) (lineNumbers q step)) out′ r
 
 -- the records before the byte `at` are served, and their lines stand before the place `to`
 pub record RunTo (q₀ : Quay) (bytes out₀ : List ℕ) (q : Quay) (out : List ℕ) (at to : ℕ) : Type 0 where
-  pub state : servedAll q (stepsIn (drop at bytes)) ≡ leftBy q₀ bytes
+  pub state : quayAfterAll q (stepsIn (drop at bytes)) ≡ leftBy q₀ bytes
   pub lines : take to out ++ linesBy q (stepsIn (drop at bytes)) ≡ linesOf q₀ bytes
   pub rest : drop to out ≡ drop to out₀
   pub size : length out ≡ length out₀
