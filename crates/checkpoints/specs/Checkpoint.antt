@@ -50,12 +50,12 @@ entriesTo g v change = entriesBefore g v change (g .nodes)
 -- ---- how an open checkpoint ends in an entry. Commit: "one state store where Precommit or Inv-CK stands". Abandon: "Precommit state words likewise".
 
 -- "where Precommit or Inv-CK stands"
-abbrev pub commits : Entry → Bool
-commits e = isPrecommit (current e) || not (eqb (kept e) invalid)
+abbrev pub toCommit : Entry → Bool
+toCommit e = isPrecommit (current e) || not (eqb (kept e) invalid)
 
 -- "Commit and roll forward empty the kept place."
 unfoldable pub commitChange : Entry → List Change
-commitChange e = cond (commits e) (stateTo (changeOf (current e) Commit) invalid ∷ []) []
+commitChange e = cond (toCommit e) (stateTo (changeOf (current e) Commit) invalid ∷ []) []
 
 -- the kept place stays
 unfoldable pub abandonChange : Entry → List Change

@@ -37,14 +37,14 @@ abbrev pub turn : View → ℕ → ℕ → ℕ → Store
 turn v n b code = entryStore n b (stateTo code (kept (v .entry n b)))
 
 -- "turns Precommit2, else a home takes it"
-unfoldable pub partnerStores : Geometry → View → ℕ → ℕ → List Store
-partnerStores g v b o =
+unfoldable pub precommit2Stores : Geometry → View → ℕ → ℕ → List Store
+precommit2Stores g v b o =
     cond (hasSharer g v b) (turn v (sharerOf g v b) b precommit2 ∷ [])
     (homeStores g v Current (homeOf g v Current o b) b precommit2 (v .entry o b .value))
 
 -- "Its owner turns Precommit1."
 unfoldable pub createItem : Geometry → View → ℕ → ℕ → List Store
-createItem g v b o = turn v o b precommit1 ∷ partnerStores g v b o
+createItem g v b o = turn v o b precommit1 ∷ precommit2Stores g v b o
 
 abbrev pub createStores : Geometry → View → List Store
 createStores g v = createItem g v (dirtyItem g v) (ownerOf g v (dirtyItem g v))

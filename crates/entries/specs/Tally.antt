@@ -25,8 +25,8 @@ hasKept v b code n = live v n && eqb (kept (v .entry n b)) code
 abbrev pub copy : View → ℕ → ℕ → Bool
 copy v b n = live v n && not (eqb (current (v .entry n b)) 0)
 
-abbrev pub keep : View → ℕ → ℕ → Bool
-keep v b n = live v n && not (eqb (kept (v .entry n b)) 0)
+abbrev pub keptCopy : View → ℕ → ℕ → Bool
+keptCopy v b n = live v n && not (eqb (kept (v .entry n b)) 0)
 
 -- item b over the live nodes below n: how many have each code, how many a current copy, and the values of the copies
 abbrev pub countsOf : View → ℕ → ℕ → Counts
@@ -35,7 +35,7 @@ countsOf v b n = record {
   kept = λ code. count (hasKept v b code) n;
   copies = count (copy v b) n;
   values = valuesOf n (copy v b) (λ n. v .entry n b .value);
-  keeps = valuesOf n (keep v b) (λ n. v .entry n b .keptValue);
+  keeps = valuesOf n (keptCopy v b) (λ n. v .entry n b .keptValue);
 }
 
 -- ---- which counts make an item clean, dirty or created

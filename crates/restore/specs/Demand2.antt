@@ -25,7 +25,7 @@ use Rattle.entries.specs.Dirty.{ownerOf, dirtyItem}
 use Rattle.checkpoints.specs.Checkpoint.{openAdmission}
 use Rattle.checkpoints.specs.Create.{sharerOf, createOf}
 use Rattle.counting.specs.Counting.{exists}
-use Rattle.restore.specs.Memory.{Memory, valueIn, savedIn}
+use Rattle.restore.specs.Memory.{Memory, valueOf, savedIn}
 use Rattle.restore.specs.Run.{Step, geometryIn, isFormat, planAt}
 use Rattle.restore.specs.History.{History, lastWritten}
 
@@ -63,7 +63,7 @@ pub record Demand2 : Type 0 where
   -- which is the plain memory's answer
   pub read-memory :
       {t : List ℕ} {memory : Memory} {commits : ℕ} (history : History t memory commits) (n b : ℕ) {g : Geometry} {x : ℕ} {ss : List Store}
-      → readOf t n b ≡ carry g x ss → x ≡ valueIn memory b
+      → readOf t n b ≡ carry g x ss → x ≡ valueOf memory b
   -- and no call of a history is refused for the table: it passes checks 1, 3, 1 and 2
   pub never-refused : {t : List ℕ} {memory : Memory} {commits : ℕ} → History t memory commits → faultOf t ≡ Passed (geometryIn t)
   -- so none but Format is refused with 1, 2 or 3

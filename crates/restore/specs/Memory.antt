@@ -35,8 +35,8 @@ fed call true memory = memory
 fed call false memory = carried call memory
 
 -- "Read answers the item's value"
-abbrev pub valueIn : Memory → ℕ → ℕ
-valueIn memory b = getD (memory .values) b 0
+abbrev pub valueOf : Memory → ℕ → ℕ
+valueOf memory b = getD (memory .values) b 0
 
 abbrev pub savedIn : Memory → ℕ → ℕ
 savedIn memory b = getD (memory .saved) b 0

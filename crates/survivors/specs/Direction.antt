@@ -7,10 +7,10 @@ use Rattle.table.specs.declared.geometry.Geometry.{Geometry}
 use Rattle.table.specs.Words.{phaseOf}
 use Rattle.table.specs.View.{View, live}
 
--- node n has phase 2
-abbrev pub commits : View → ℕ → Bool
-commits w n = live w n && eqb (phaseOf (w .mark n)) 2
+-- node n is committing: it has phase 2
+abbrev pub committing : View → ℕ → Bool
+committing w n = live w n && eqb (phaseOf (w .mark n)) 2
 
 -- w is the view of the survivors
 unfoldable pub forwardIn : Geometry → View → Bool
-forwardIn g w = exists (commits w) (g .nodes)
+forwardIn g w = exists (committing w) (g .nodes)

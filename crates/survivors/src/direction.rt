@@ -2,7 +2,7 @@
 ghost use mathlib.Core.Path.{_≡_};
 ghost use Rattle.table.specs.View.{view};
 ghost use Rattle.survivors.specs.Survivors.{survivors};
-ghost use Rattle.survivors.specs.Direction.{commits, forwardIn};
+ghost use Rattle.survivors.specs.Direction.{committing, forwardIn};
 use crate::lost::Lost;
 use crate::nodes;
 use table::geometry::Geometry;
@@ -10,7 +10,7 @@ use table::words;
 
 // Whether a node survives and has phase 2.
 fn commits_at(table: &[u64], g: Geometry, lost: Lost, node: u8) -> bool
-    ensures { λ r. ⌜ r ≡ commits (survivors lost (view g (now (table .entry)))) node ⌝ }
+    ensures { λ r. ⌜ r ≡ committing (survivors lost (view g (now (table .entry)))) node ⌝ }
 {
     let mark = nodes::survivor_mark(table, g, lost, node);
     let phase = words::phase_of(mark);

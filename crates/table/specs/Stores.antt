@@ -31,10 +31,10 @@ changeWord (stateTo c k) = stateWord c k
 changeWord (valueTo x) = x
 changeWord (keptTo x) = x
 
-abbrev pub placeOf : Geometry → Store → ℕ
-placeOf g (sizeStore h) = 0
-placeOf g (markStore n w) = markAt n
-placeOf g (entryStore n b c) = entryAt g n b + partOf c
+abbrev pub addressOf : Geometry → Store → ℕ
+addressOf g (sizeStore h) = 0
+addressOf g (markStore n w) = markAt n
+addressOf g (entryStore n b c) = entryAt g n b + partOf c
 
 abbrev pub wordOf : Store → ℕ
 wordOf (sizeStore h) = sizeWord (h .nodes) (h .items) (h .frames)
@@ -46,7 +46,7 @@ unfoldable pub after : Geometry → ℕ → List Store → List ℕ → List ℕ
 after g zero [] t = t
 after g zero (s ∷ ss) t = t
 after g (suc limit) [] t = t
-after g (suc limit) (s ∷ ss) t = after g limit ss (set t (placeOf g s) (wordOf s))
+after g (suc limit) (s ∷ ss) t = after g limit ss (set t (addressOf g s) (wordOf s))
 
 -- f 0, f 1, .. and f (n − 1), one after the other
 unfoldable pub runs : (ℕ → List Store) → ℕ → List Store

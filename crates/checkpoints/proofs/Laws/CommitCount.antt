@@ -25,7 +25,7 @@ use Rattle.entries.proofs.Laws.KindTests.{created-test}
 use Rattle.entries.proofs.Laws.SoundFacts.{SoundTable}
 use Rattle.homes.specs.declared.admission.Admission.the-variants.{Admitted}
 use Rattle.checkpoints.specs.declared.checkpoint.Closing.the-variants.{Committed}
-use Rattle.checkpoints.specs.Checkpoint.{isPrecommit, liveChanges, entriesBefore, entriesTo, closeChange, commitChange, commits}
+use Rattle.checkpoints.specs.Checkpoint.{isPrecommit, liveChanges, entriesBefore, entriesTo, closeChange, commitChange, toCommit}
 use Rattle.checkpoints.specs.Commit.{committingMark, committedMark, commitStores, commitAdmission, commitOf}
 use Rattle.checkpoints.proofs.Laws.KindMoved.{not-precommit}
 use Rattle.checkpoints.proofs.Laws.CommitTheorem.{carried, facts}
@@ -45,7 +45,7 @@ marks-count g v f = runs-sum (markTo v f) (g .nodes) ∙ sum-ext (g .nodes) _ _ 
 
 -- "where Precommit or Inv-CK stands"
 abbrev stored : View → ℕ → ℕ → ℕ
-stored v b n = one (live v n && commits (v .entry n b))
+stored v b n = one (live v n && toCommit (v .entry n b))
 
 module _ (g : Geometry) (v : View) where
   abbrev stores-at : ℕ → ℕ → List Store
@@ -53,7 +53,7 @@ module _ (g : Geometry) (v : View) where
 
   at-one : (n b : ℕ) → length (stores-at n b) ≡ stored v b n
   unfolding liveChanges closeChange commitChange
-  at-one n b = go (live v n) (commits (v .entry n b)) (stateTo (changeOf (current (v .entry n b)) Commit) invalid)
+  at-one n b = go (live v n) (toCommit (v .entry n b)) (stateTo (changeOf (current (v .entry n b)) Commit) invalid)
     where
       go : (x y : Bool) (c : Change) → length (map (entryStore n b) (cond x (cond y (c ∷ []) []) [])) ≡ one (x && y)
       go true true c = refl
@@ -82,7 +82,7 @@ module _ (v : View) (N b : ℕ) (forms : (n : ℕ) → n < N → live v n ≡ tr
   one-of e = ap one e
 
   stored-four : (n : ℕ) → n < N → stored v b n ≤ four n
-  stored-four n l = by-cases (live v n) alive (λ t. dead (live v n) (commits (v .entry n b)) t)
+  stored-four n l = by-cases (live v n) alive (λ t. dead (live v n) (toCommit (v .entry n b)) t)
     where
       dead : (a x : Bool) {m : ℕ} → a ≡ false → one (a && x) ≤ m
       dead true x t = absurd (no-both refl t)
@@ -90,8 +90,8 @@ module _ (v : View) (N b : ℕ) (forms : (n : ℕ) → n < N → live v n ≡ tr
 
       alive : live v n ≡ true → stored v b n ≤ four n
       alive t =
-          let s = one-le (live v n && commits (v .entry n b)) in
-          by-cases (commits (v .entry n b))
+          let s = one-le (live v n && toCommit (v .entry n b)) in
+          by-cases (toCommit (v .entry n b))
           (λ c. either (isPrecommit (current (v .entry n b))) c
           (λ p. either (eqb (current (v .entry n b)) precommit1) p
           (λ q. omega (arith, one-of (and-both t q)))
@@ -125,9 +125,9 @@ module _ (v : View) (N b : ℕ) (forms : (n : ℕ) → n < N → live v n ≡ tr
       )
 
   clean-count : (k : Clean v N b) → sum (stored v b) N ≤ 0
-  clean-count k = omega (arith, sum-count (λ n. live v n && commits (v .entry n b)) N, count-zero N (λ n. live v n && commits (v .entry n b)) (λ n l. go n l (live v n) refl))
+  clean-count k = omega (arith, sum-count (λ n. live v n && toCommit (v .entry n b)) N, count-zero N (λ n. live v n && toCommit (v .entry n b)) (λ n l. go n l (live v n) refl))
     where
-      go : (n : ℕ) → n < N → (a : Bool) → live v n ≡ a → (a && commits (v .entry n b)) ≡ false
+      go : (n : ℕ) → n < N → (a : Bool) → live v n ≡ a → (a && toCommit (v .entry n b)) ≡ false
       go n l true t = rw (not-precommit cleanCode v b n refl refl t (k .others n l), eq-eqb (kept (v .entry n b)) 0 (no-keep v b n t (k .nothing n l))) refl
       go n l false t = refl
 

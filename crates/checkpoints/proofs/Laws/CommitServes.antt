@@ -15,7 +15,7 @@ use Rattle.table.specs.View.{Entry, View, view, current}
 use Rattle.table.specs.Copies.{copyNumber, copyValue, forwardCopy}
 use Rattle.table.specs.Answers.{carry}
 use Rattle.entries.proofs.Laws.CheckFacts.{Accepted}
-use Rattle.checkpoints.specs.Checkpoint.{commits}
+use Rattle.checkpoints.specs.Checkpoint.{toCommit}
 use Rattle.checkpoints.specs.Commit.{commitOf}
 use Rattle.homes.proofs.Laws.Kept.{Live}
 use Rattle.checkpoints.proofs.Laws.Forward.{forward-number, forward-value}
@@ -30,7 +30,7 @@ use Rattle.homes.proofs.Laws.Serves.{CurrentHave, BackHave, Serves, same-geomet
 module _ (e : Entry) (z : current e ≡ 0) where
   still-invalid : current (committed e) ≡ 0
   unfolding changeOf
-  still-invalid = go (commits e)
+  still-invalid = go (toCommit e)
     where
       code : changeOf (current e) Commit ≡ 0
       code = rw z refl

@@ -22,14 +22,14 @@ use Rattle.table.specs.View.{Entry, View, view, live, current, kept}
 use Rattle.table.specs.Answers.{carry}
 use Rattle.entries.specs.declared.check.Checked.the-variants.{Passed}
 use Rattle.entries.specs.Check.{faultOf}
-use Rattle.entries.specs.Tally.{copy, keep}
+use Rattle.entries.specs.Tally.{copy, keptCopy}
 use Rattle.entries.proofs.Laws.Kinds.{cleanCode, Clean, Owned, modified-at, owner-at, Created, Kind, clean, dirty, created, has-live, has-code, no-keep}
 use Rattle.entries.proofs.Laws.SoundFacts.{SoundTable, numberIn}
 use Rattle.entries.proofs.Laws.CheckFacts.{Accepted, facts-accepted}
 use Rattle.homes.specs.declared.admission.Admission.the-variants.{Admitted}
 use Rattle.checkpoints.specs.declared.checkpoint.Closing.the-variants.{Committed}
 use Rattle.entries.specs.Dirty.{owns}
-use Rattle.checkpoints.specs.Checkpoint.{isPrecommit, closeChange, commits}
+use Rattle.checkpoints.specs.Checkpoint.{isPrecommit, closeChange, toCommit}
 use Rattle.checkpoints.specs.Commit.{committingMark, committedMark, commitStores, commitAdmission, commitOf}
 use Rattle.homes.proofs.Laws.Kept.{live-test, test-live}
 use Rattle.homes.proofs.Laws.SoundKept.{Off, shape-after}
@@ -59,27 +59,27 @@ code-low c h = ltb-true _ 16 (every-at 8 lowRule refl c h)
 
 module _ (e : Entry) (form : stateForm (e .state) ≡ true) where
   committed-current : owns (current e) ≡ false → current (committed e) ≡ changeOf (current e) Commit
-  committed-current plain = go (commits e) refl
+  committed-current plain = go (toCommit e) refl
     where
-      go : (q : Bool) → commits e ≡ q → current (committedBy q e) ≡ changeOf (current e) Commit
+      go : (q : Bool) → toCommit e ≡ q → current (committedBy q e) ≡ changeOf (current e) Commit
       go true h = current-state (changeOf (current e) Commit) 0 (code-low (current e) (form-facts (e .state) form .code)) (omega arith)
       go false h =
           sym (code-stays (current e) (form-facts (e .state) form .code) plain
           (neither (isPrecommit (current e)) (not (eqb (kept e) invalid)) h .0))
 
   committed-kept : kept (committed e) ≡ 0
-  committed-kept = go (commits e) refl
+  committed-kept = go (toCommit e) refl
     where
-      go : (q : Bool) → commits e ≡ q → kept (committedBy q e) ≡ 0
+      go : (q : Bool) → toCommit e ≡ q → kept (committedBy q e) ≡ 0
       go true h = kept-state (changeOf (current e) Commit) 0 (code-low (current e) (form-facts (e .state) form .code)) (omega arith)
       go false h = eqb-true (kept e) 0 (not-false (eqb (kept e) 0) (neither (isPrecommit (current e)) (not (eqb (kept e) invalid)) h .1))
 
 committed-same : (e : Entry) → isPrecommit (current e) ≡ false → kept e ≡ 0 → committed e ≡ e
 committed-same e h k =
-    let c : commits e ≡ false = rw (h, eq-eqb (kept e) 0 k) refl in
+    let c : toCommit e ≡ false = rw (h, eq-eqb (kept e) 0 k) refl in
     rw c refl
 
-no-keep-at : (v : View) (b n : ℕ) → kept (v .entry n b) ≡ 0 → keep v b n ≡ false
+no-keep-at : (v : View) (b n : ℕ) → kept (v .entry n b) ≡ 0 → keptCopy v b n ≡ false
 no-keep-at v b n e = and-no (live v n) (ap not (eq-eqb (kept (v .entry n b)) 0 e))
 
 -- "12 a dirty item not created": none is owned
@@ -122,7 +122,7 @@ module _
     plain-at : (n : ℕ) → n < g .nodes → live v n ≡ true → owns (current (v .entry n b)) ≡ false
     plain-at n l t = none-owned g v admitted n b (test-live g v n l t) h
 
-    kept-at : (n : ℕ) → n < g .nodes → keep w b n ≡ false
+    kept-at : (n : ℕ) → n < g .nodes → keptCopy w b n ≡ false
     kept-at n l = by-cases (live v n)
         (λ t. no-keep-at w b n (ap kept (entry-is n l t) ∙ committed-kept (v .entry n b) (good .forms n b l h t)))
         (λ t. ap (λ a. a && not (eqb (kept (w .entry n b)) 0)) (lives n l ∙ t))

@@ -25,7 +25,7 @@ use Rattle.homes.specs.Home.{homeOf, homeFrom, arrivalOf, homeStores, homeStore
 use Rattle.homes.proofs.Laws.HomeCode.{home-there}
 use Rattle.homes.specs.Holders.{firstHolder}
 use Rattle.homes.proofs.Laws.Holders.{holder-first, owner-held}
-use Rattle.checkpoints.specs.Create.{sharesAt, sharerOf, partnerStores, createItem, noPartner, createPlan}
+use Rattle.checkpoints.specs.Create.{sharesAt, sharerOf, precommit2Stores, createItem, noPartner, createPlan}
 use Rattle.checkpoints.specs.code.CreateCode.{itemPlan, sharerStores, takenStores}
 
 -- ---- a sharer
@@ -92,7 +92,7 @@ module _ (g : Geometry) (v : View) (b : ℕ) (owned : ownerOf g v b < g .nodes) 
   q = shares ∙ sharer-held g v b
 
   pub item-shared : s < g .nodes → itemPlan g v b ≡ carry g 0 (sharerStores v b o s)
-  unfolding itemPlan noPartner createItem partnerStores sharerStores
+  unfolding itemPlan noPartner createItem precommit2Stores sharerStores
   item-shared l = rw (← p, ← q, lt-ltb s (g .nodes) l) refl
 
   module _ (l : g .nodes ≤ s) {h : ℕ} (found : h ≡ homeFrom g v Current o b) where
@@ -104,5 +104,5 @@ module _ (g : Geometry) (v : View) (b : ℕ) (owned : ownerOf g v b < g .nodes) 
     item-none e = rw (← p, ← q, le-ltb s (g .nodes) l, ← r, eq-eqb h o e) refl
 
     pub item-taken : (h ≡ o → ⊥) → itemPlan g v b ≡ carry g 0 (takenStores g v b o h)
-    unfolding itemPlan noPartner createItem partnerStores takenStores
+    unfolding itemPlan noPartner createItem precommit2Stores takenStores
     item-taken e = rw (← p, ← q, le-ltb s (g .nodes) l, ← r, ne-eqb h o e) refl

@@ -27,7 +27,7 @@ use Rattle.entries.proofs.Laws.CheckFacts.{Accepted, facts-accepted}
 use Rattle.homes.specs.declared.places.Place.the-variants.{Current}
 use Rattle.entries.specs.Dirty.{owns, ownerOf, dirtyItem}
 use Rattle.homes.specs.Home.{homeOf, arrivalOf, homeStores}
-use Rattle.checkpoints.specs.Create.{hasSharer, sharerOf, turn, partnerStores, createItem, createOf}
+use Rattle.checkpoints.specs.Create.{hasSharer, sharerOf, turn, precommit2Stores, createItem, createOf}
 use Rattle.homes.proofs.Laws.Kept.{Kept, live-test}
 use Rattle.homes.proofs.Laws.Placed.{placed-current, placed-kept}
 use Rattle.checkpoints.proofs.Laws.Created.{Pairing, Paired}
@@ -189,7 +189,7 @@ module _ (g : Geometry) (b o p d : ℕ) (v w : View) (phase number : ℕ) (good 
 -- ---- its stores
 
 pub create-off : (g : Geometry) (v : View) (b o : ℕ) → All (Off g) (createItem g v b o)
-unfolding createItem partnerStores homeStores
+unfolding createItem precommit2Stores homeStores
 create-off g v b o = all-then (entry-off g o b (stateTo precommit1 (kept (v .entry o b)) ∷ [])) (go (hasSharer g v b))
   where
     go : (q : Bool) → All (Off g) (cond q (turn v (sharerOf g v b) b precommit2 ∷ []) (homeStores g v Current (homeOf g v Current o b) b precommit2 (v .entry o b .value)))

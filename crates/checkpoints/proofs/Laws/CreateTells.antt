@@ -23,7 +23,7 @@ use Rattle.entries.specs.Dirty.{owns, ownsAt, ownerOf, dirtyItem}
 use Rattle.homes.specs.Home.{hasRoom, placeFits, fits, homeOf, droppedItem}
 use Rattle.homes.proofs.Laws.HomeLaws.{home-fits}
 use Rattle.homes.proofs.Laws.EvictLeaves.{drops-shared}
-use Rattle.checkpoints.specs.Create.{sharesAt, sharerOf, hasSharer, partnerStores, createItem, createStores, noPartner, createPlan}
+use Rattle.checkpoints.specs.Create.{sharesAt, sharerOf, hasSharer, precommit2Stores, createItem, createStores, noPartner, createPlan}
 use Rattle.checkpoints.proofs.Laws.CreateCode.{next-owned}
 use Rattle.homes.proofs.Laws.Kept.{Live, Kept, live-test, test-live}
 use Rattle.checkpoints.proofs.Laws.Created.{partnerOf, partnerDrops, CreateFinds, CreateLeaves}
@@ -139,7 +139,7 @@ module _ (g : Geometry) (v : View) (phase number : ℕ) (good : SoundTable g v p
       values-agree g v phase number b good some (ownerOf g v b) p (owning .node) l (owns-not _ (owning .owned) .1) (λ z. omega (arith, e, z))
 
   pub create-via : Via g (Kept g v) (CreateLeaves g v) v (createStores g v)
-  unfolding createItem partnerStores partnerOf partnerDrops
+  unfolding createItem precommit2Stores partnerOf partnerDrops
   create-via =
       by-cases (hasSharer g v b)
       (λ q. let s = sharer-tells g v b q in

@@ -9,7 +9,7 @@ use Rattle.counting.proofs.Laws.Tests.{by-cases, and-same, both, either, or-rig
 use Rattle.counting.proofs.Laws.Counting.{Only, only-same}
 use Rattle.table.specs.Words.{shared, owner, modified, sharedCK1, sharedCK2, precommit1, precommit2, invCK1, invCK2}
 use Rattle.table.specs.View.{View, live, current, kept}
-use Rattle.entries.specs.Tally.{has, hasKept, copy, keep}
+use Rattle.entries.specs.Tally.{has, hasKept, copy, keptCopy}
 use Rattle.entries.proofs.Laws.Kinds.{cleanCode, ownerCode, createdCode, Clean, Saved, Owned, modified-at, owner-at, Dirty, Created, has-live, has-code, has-at, copy-at, copy-live, copy-code}
 use Rattle.checkpoints.specs.Checkpoint.{isPrecommit}
 
@@ -108,7 +108,7 @@ module _ (v w : View) (N b : ℕ) (lives : (n : ℕ) → n < N → live w n ≡ 
     has-kept : (code n : ℕ) → n < N → hasKept w b code n ≡ hasKept v b code n
     has-kept code n l = test-same (live v n) (live w n) _ _ (lives n l) (λ t. ap (λ x. eqb x code) (same n l t))
 
-    keep-same : (n : ℕ) → n < N → keep w b n ≡ keep v b n
+    keep-same : (n : ℕ) → n < N → keptCopy w b n ≡ keptCopy v b n
     keep-same n l = test-same (live v n) (live w n) _ _ (lives n l) (λ t. ap (λ x. not (eqb x 0)) (same n l t))
 
     pub saved-moved : Saved v N b → Saved w N b
@@ -119,7 +119,7 @@ module _ (v w : View) (N b : ℕ) (lives : (n : ℕ) → n < N → live w n ≡ 
       first = only-same N (hasKept v b invCK1) (hasKept w b invCK1) (k .one) (λ n l. sym (has-kept invCK1 n l)) (k .first);
       second = only-same N (hasKept v b invCK2) (hasKept w b invCK2) (k .two) (λ n l. sym (has-kept invCK2 n l)) (k .second);
       values = λ n l t.
-          let was : keep v b n ≡ true = sym (keep-same n l) ∙ t in
+          let was : keptCopy v b n ≡ true = sym (keep-same n l) ∙ t in
           values n l (both (live v n) was .0) ∙ k .values n l was;
     }
 

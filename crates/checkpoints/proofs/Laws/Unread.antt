@@ -25,7 +25,7 @@ use Rattle.homes.proofs.Laws.Unread.{same-home, same-home-stores, home-live, pl
 use Rattle.checkpoints.specs.declared.checkpoint.Closing.the-variants.{Committed, Abandoned}
 use Rattle.checkpoints.specs.Checkpoint.{commonMark, isOpen, openAdmission, liveChanges, entriesBefore, entriesTo, closeChange}
 use Rattle.checkpoints.specs.Open.{startAdmission, openOf}
-use Rattle.checkpoints.specs.Create.{sharesAt, sharerOf, partnerStores, createItem, noPartner, createPlan, createOf}
+use Rattle.checkpoints.specs.Create.{sharesAt, sharerOf, precommit2Stores, createItem, noPartner, createPlan, createOf}
 use Rattle.checkpoints.specs.Commit.{committingMark, committedMark, commitStores, createdAdmission, commitAdmission, commitOf, runningMark, abandonStores, abandonOf}
 use Rattle.checkpoints.proofs.Laws.CreateCode.{next-owned}
 
@@ -95,7 +95,7 @@ module _ (g : Geometry) (v : View) (e : ℕ → ℕ → Entry) (s : Agrees g v e
   same-partner b = rw (same-sharer b, same-owner g v e s b, same-home g v e s Current (ownerOf g v b) b) refl
 
   create-item : (b o : ℕ) → o < g .nodes → live v o ≡ true → createItem g (over v e) b o ≡ createItem g v b o
-  unfolding createItem partnerStores
+  unfolding createItem precommit2Stores
   create-item b o there t =
       let h = homeOf g v Current o b in
       let k = home-live g v Current o b there t in

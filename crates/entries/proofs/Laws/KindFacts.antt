@@ -11,7 +11,7 @@ use Rattle.table.specs.View.{View}
 use Rattle.counting.specs.Counting.{count}
 use Rattle.counting.proofs.Laws.Counting.{only}
 use Rattle.counting.proofs.Laws.Values.{values-equal, values-unseen}
-use Rattle.entries.specs.Tally.{Counts, has, hasKept, copy, keep, countsOf, isClean, isOwned, isSaved, isDirty, isCreated, itemTest}
+use Rattle.entries.specs.Tally.{Counts, has, hasKept, copy, keptCopy, countsOf, isClean, isOwned, isSaved, isDirty, isCreated, itemTest}
 use Rattle.entries.proofs.Laws.Kinds.{cleanCode, ownerCode, createdCode, Clean, Saved, Owned, modified-at, owner-at, Dirty, Created, Kind, clean, dirty, created, copy-live}
 use Rattle.entries.proofs.Laws.Codes.{two-codes, three-codes, codes-all}
 
@@ -34,7 +34,7 @@ module _ (v : View) (N b : ℕ) where
         value = s .keeps .first;
         first = o₁ .1;
         second = o₂ .1;
-        values = values-equal N (keep v b) (λ n. v .entry n b .keptValue) (h₂ .1);
+        values = values-equal N (keptCopy v b) (λ n. v .entry n b .keptValue) (h₂ .1);
       }
 
   pub clean-facts : isClean s ≡ true → Clean v N b
@@ -56,7 +56,7 @@ module _ (v : View) (N b : ℕ) where
         second = o₂ .1;
         others = codes-all v N b cleanCode refl (omega (arith, three-codes v N b 4 5 1 (λ z. omega arith) (λ z. omega arith) (λ z. omega arith)));
         values = current-values (h₄ .0);
-        nothing = values-unseen N (keep v b) (λ n. v .entry n b .keptValue) (not-true (s .keeps .seen) (h₄ .1));
+        nothing = values-unseen N (keptCopy v b) (λ n. v .entry n b .keptValue) (not-true (s .keeps .seen) (h₄ .1));
       }
 
   pub owned-facts : isOwned s ≡ true → (m : ℕ) × Owned v N b m

@@ -11,7 +11,7 @@ use Rattle.table.specs.View.{View, current}
 use Rattle.counting.specs.Counting.{count}
 use Rattle.counting.proofs.Laws.Counting.{Only, only-counts}
 use Rattle.counting.proofs.Laws.Values.{equal-values, unseen-values}
-use Rattle.entries.specs.Tally.{Counts, has, hasKept, copy, keep, countsOf, isClean, isOwned, isSaved, isDirty, isCreated, itemTest}
+use Rattle.entries.specs.Tally.{Counts, has, hasKept, copy, keptCopy, countsOf, isClean, isOwned, isSaved, isDirty, isCreated, itemTest}
 use Rattle.entries.proofs.Laws.Kinds.{cleanCode, ownerCode, createdCode, Clean, Saved, Owned, modified-at, owner-at, Dirty, Created, Kind, clean, dirty, created, has-code}
 use Rattle.entries.proofs.Laws.Codes.{two-codes, three-codes, all-codes}
 
@@ -29,7 +29,7 @@ module _ (v : View) (N b : ℕ) where
   pub saved-test : Saved v N b → isSaved s ≡ true
   saved-test k =
       and-both (single (hasKept v b invCK1) (k .one) (k .first))
-      (and-both (single (hasKept v b invCK2) (k .two) (k .second)) (equal-values N (keep v b) (λ n. v .entry n b .keptValue) (k .value) (k .values) .0))
+      (and-both (single (hasKept v b invCK2) (k .two) (k .second)) (equal-values N (keptCopy v b) (λ n. v .entry n b .keptValue) (k .value) (k .values) .0))
 
   pub clean-test : Clean v N b → isClean s ≡ true
   clean-test k =
@@ -39,7 +39,7 @@ module _ (v : View) (N b : ℕ) where
       and-both (eq-eqb (s .current sharedCK1) 1 e₁)
       (and-both (eq-eqb (s .current sharedCK2) 1 e₂)
       (and-both (eq-eqb (s .copies) (2 + s .current shared) (omega (arith, all-codes v N b cleanCode refl (k .others))))
-      (and-both (values-equal (k .value) (k .values)) (ap not (unseen-values N (keep v b) (λ n. v .entry n b .keptValue) (k .nothing))))))
+      (and-both (values-equal (k .value) (k .values)) (ap not (unseen-values N (keptCopy v b) (λ n. v .entry n b .keptValue) (k .nothing))))))
 
   pub owned-test : (m : ℕ) → Owned v N b m → isOwned s ≡ true
   owned-test m (modified-at o h) =

@@ -10,7 +10,7 @@ use Rattle.table.specs.Words.{shared, owner, modified, sharedCK1, sharedCK2, pr
 use Rattle.counting.proofs.Laws.Tests.{both, and-both, and-no-right}
 use Rattle.table.specs.View.{View, live, current, kept}
 use Rattle.counting.proofs.Laws.Counting.{Only}
-use Rattle.entries.specs.Tally.{has, hasKept, copy, keep}
+use Rattle.entries.specs.Tally.{has, hasKept, copy, keptCopy}
 
 -- codes that an item's current copies may have
 abbrev pub cleanCode : ℕ → Bool
@@ -34,7 +34,7 @@ module _ (v : View) (N b : ℕ) where
     pub second : Only N (has v b sharedCK2) two
     pub others : (n : ℕ) → n < N → copy v b n ≡ true → cleanCode (current (v .entry n b)) ≡ true
     pub values : (n : ℕ) → n < N → copy v b n ≡ true → v .entry n b .value ≡ value
-    pub nothing : (n : ℕ) → n < N → keep v b n ≡ false
+    pub nothing : (n : ℕ) → n < N → keptCopy v b n ≡ false
 
   -- "one Inv-CK1, one Inv-CK2, values equal"
   pub record Saved : Type 0 where
@@ -43,7 +43,7 @@ module _ (v : View) (N b : ℕ) where
     pub value : ℕ
     pub first : Only N (hasKept v b invCK1) one
     pub second : Only N (hasKept v b invCK2) two
-    pub values : (n : ℕ) → n < N → keep v b n ≡ true → v .entry n b .keptValue ≡ value
+    pub values : (n : ℕ) → n < N → keptCopy v b n ≡ true → v .entry n b .keptValue ≡ value
 
   -- "one Modified and no other current copy, or one Owner with any number of Shared": the node that owns the item
   pub data Owned (m : ℕ) : Type 0 where
@@ -97,10 +97,10 @@ module _ (v : View) (b n : ℕ) where
   pub has-copy : (code : ℕ) → code ≢ 0 → has v b code n ≡ true → copy v b n ≡ true
   has-copy code d h = copy-at (both (live v n) h .0) (λ z. d (sym (has-code code h) ∙ z))
 
-  pub keep-at : live v n ≡ true → kept (v .entry n b) ≢ 0 → keep v b n ≡ true
+  pub keep-at : live v n ≡ true → kept (v .entry n b) ≢ 0 → keptCopy v b n ≡ true
   keep-at l d = and-both l (ap not (ne-eqb (kept (v .entry n b)) 0 d))
 
-  pub no-keep : live v n ≡ true → keep v b n ≡ false → kept (v .entry n b) ≡ 0
+  pub no-keep : live v n ≡ true → keptCopy v b n ≡ false → kept (v .entry n b) ≡ 0
   no-keep l h = eqb-true (kept (v .entry n b)) 0 (not-false (eqb (kept (v .entry n b)) 0) (and-no-right (live v n) l h))
 
   pub no-copy : live v n ≡ true → copy v b n ≡ false → current (v .entry n b) ≡ 0

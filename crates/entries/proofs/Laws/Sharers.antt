@@ -10,7 +10,7 @@ use borrow.Author.Tests.{ne-eqb}
 use Rattle.table.specs.Words.{shared, owner, modified, sharedCK1, sharedCK2, precommit1, precommit2, invCK1, invCK2}
 use Rattle.table.specs.View.{View, live, current, kept}
 use Rattle.counting.proofs.Laws.Counting.{Only, only-same}
-use Rattle.entries.specs.Tally.{has, hasKept, copy, keep}
+use Rattle.entries.specs.Tally.{has, hasKept, copy, keptCopy}
 use Rattle.entries.proofs.Laws.Kinds.{cleanCode, ownerCode, createdCode, Clean, Saved, Owned, modified-at, owner-at, Kind, clean, dirty, created, copy-live, copy-code, copy-at}
 use Rattle.entries.proofs.Laws.Update.{Elsewhere}
 
@@ -37,7 +37,7 @@ module _ (v w : View) (N b : ℕ) (s : Steady v w N b) where
   same-live : (m : ℕ) → m < N → live w m ≡ live v m
   same-live m l = ap (λ x. not (eqb x 0)) (s .mark m l)
 
-  same-keep : (m : ℕ) → m < N → keep w b m ≡ keep v b m
+  same-keep : (m : ℕ) → m < N → keptCopy w b m ≡ keptCopy v b m
   same-keep m l = ap₂ _&&_ (same-live m l) (ap (λ x. not (eqb x 0)) (s .kept m l))
 
   only-has : (code m : ℕ) → 2 ≤ code → Only N (has v b code) m → Only N (has w b code) m

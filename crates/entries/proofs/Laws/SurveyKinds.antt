@@ -10,7 +10,7 @@ use Rattle.counting.specs.Counting.{every, sum, count, one}
 use Rattle.counting.proofs.Laws.Counting.{every-at, count-le, count-ext}
 use Rattle.counting.proofs.Laws.Values.{values-unseen, count-seen, values-ext, equal-values}
 use Rattle.table.specs.View.{View, live, current, kept}
-use Rattle.entries.specs.Tally.{Counts, has, hasKept, copy, keep, countsOf, itemTest}
+use Rattle.entries.specs.Tally.{Counts, has, hasKept, copy, keptCopy, countsOf, itemTest}
 use Rattle.entries.proofs.Laws.Row.{quarter}
 use Rattle.entries.specs.code.Survey.{codesForm, holds, keeps, holdsAt, keepsAt, topAt, liveTop, weightAt, heldValues, keptValues, kindTest}
 use Rattle.entries.proofs.Laws.SurveyFields.{form-codes, keeps-count, tally-fields}
@@ -281,7 +281,7 @@ module _ (v : View) (b n : ℕ) (few : n < 32) (formed : (m : ℕ) → m < n →
   unfolding holds
   same-copy = same-top (λ m. not (eqb (current (v .entry m b)) 0)) holds (λ m e. form-and e (ap (λ c. not (eqb c 0)) (quarter (v .entry m b .state))))
 
-  same-keep : (m : ℕ) → m < n → keep v b m ≡ liveTop keeps v b m
+  same-keep : (m : ℕ) → m < n → keptCopy v b m ≡ liveTop keeps v b m
   unfolding keeps
   same-keep = same-top (λ m. not (eqb (kept (v .entry m b)) 0)) keeps (λ m e. form-and e refl)
 
@@ -294,7 +294,7 @@ module _ (v : View) (b n : ℕ) (few : n < 32) (formed : (m : ℕ) → m < n →
       fun-ext λ code. count-ext n (hasKept v b code) (liveTop (keepsAt code) v b) (same-hasKept code) in
       let a = count-ext n (copy v b) (liveTop holds v b) same-copy in
       let x = values-ext n (liveTop holds v b) (copy v b) (λ m. v .entry m b .value) (λ m. v .entry m b .value) same-copy (λ m l t. refl) in
-      let y = values-ext n (liveTop keeps v b) (keep v b) (λ m. v .entry m b .keptValue) (λ m. v .entry m b .keptValue) same-keep (λ m l t. refl) in
+      let y = values-ext n (liveTop keeps v b) (keptCopy v b) (λ m. v .entry m b .keptValue) (λ m. v .entry m b .keptValue) same-keep (λ m l t. refl) in
       λ i. record { current = c i; kept = k i; copies = a i; values = x i; keeps = y i }
 
   pub kind-tells : (phase : ℕ) → itemTest phase (countsOf v b n) ≡ (kindTest phase (sum (weightAt v b) n % 2 ^ 45) && (heldValues v b n .equal && keptValues v b n .equal))

@@ -21,7 +21,7 @@ use Rattle.table.specs.View.{Entry, View, view, live, current, kept, changed, p
 use Rattle.entries.specs.declared.check.Checked.{Checked}
 use Rattle.entries.specs.declared.check.Checked.the-variants.{Passed, Failed}
 use Rattle.entries.specs.Frames.{setsOf, setOf, setFrames, framesAt, used, framesFit, frameFree}
-use Rattle.entries.specs.Tally.{countsOf, has, hasKept, copy, keep, itemTest}
+use Rattle.entries.specs.Tally.{countsOf, has, hasKept, copy, keptCopy, itemTest}
 use Rattle.entries.specs.Dirty.{owns, ownsAt, ownerOf, dirty, dirtyItem}
 use Rattle.entries.specs.Sound.{marksForm, phasesOf, pointsOf, marksAgree, statesForm, nodeSound, nodesSound, itemSound, itemsSound, sound}
 use Rattle.entries.specs.Check.{sizesOf, soundOf, faultOf}
@@ -75,7 +75,7 @@ module _ (g : Geometry) (v : View) (e : ℕ → ℕ → Entry) (s : Agrees g v e
       let x = values-ext N (copy v b) (copy w b) (λ n. v .entry n b .value) (λ n. e n b .value)
       (λ n l. same-test b (λ x. not (eqb (current x) 0)) n)
       (λ n l t. ap (λ x. x .value) (s .alive n b (both (live v n) t .0))) in
-      let y = values-ext N (keep v b) (keep w b) (λ n. v .entry n b .keptValue) (λ n. e n b .keptValue)
+      let y = values-ext N (keptCopy v b) (keptCopy w b) (λ n. v .entry n b .keptValue) (λ n. e n b .keptValue)
       (λ n l. same-test b (λ x. not (eqb (kept x) 0)) n)
       (λ n l t. ap (λ x. x .keptValue) (s .alive n b (both (live v n) t .0))) in
       λ i. record { current = c i; kept = q i; copies = n i; values = x i; keeps = y i }

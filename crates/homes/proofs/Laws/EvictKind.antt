@@ -11,7 +11,7 @@ use Rattle.counting.proofs.Laws.Tests.{both, and-both, no-both}
 use Rattle.counting.proofs.Laws.Counting.{Only, only-same}
 use Rattle.table.specs.Words.{shared, owner, modified, sharedCK1, sharedCK2, invCK1, invCK2}
 use Rattle.table.specs.View.{View, live, current, kept}
-use Rattle.entries.specs.Tally.{has, hasKept, copy, keep}
+use Rattle.entries.specs.Tally.{has, hasKept, copy, keptCopy}
 use Rattle.entries.proofs.Laws.Kinds.{cleanCode, ownerCode, Clean, Saved, Owned, modified-at, owner-at, Kind, clean, dirty, created, has-code, has-at, copy-at, copy-live, copy-code, no-keep, keep-at}
 use Rattle.homes.proofs.Laws.SoundKept.{saved-kept}
 
@@ -186,7 +186,7 @@ module _ (v w : View) (N n h b : ℕ) (p : Between N n h b v w) where
         only-moved N n h (live v) (live w) (λ k. kept (v .entry k b)) (λ k. kept (w .entry k b)) live-same (p .there) (p .from) (p .within) (p .home)
         (c .came) (λ k d d′. ap kept (p .rest k d d′)) code m (λ e. let z = sym (c .left) ∙ e in omega arith) (λ e. let z = sym (c .low) ∙ e in omega arith)
 
-    keep-code : (u : View) (k : ℕ) → keep u b k ≡ true → (live u k ≡ true) × (kept (u .entry k b) ≢ 0)
+    keep-code : (u : View) (k : ℕ) → keptCopy u b k ≡ true → (live u k ≡ true) × (kept (u .entry k b) ≢ 0)
     keep-code u k t = (both (live u k) t .0, λ e. not-zero (kept (u .entry k b)) (both (live u k) t .1) e)
       where
         not-zero : (x : ℕ) → not (eqb x 0) ≡ true → x ≢ 0

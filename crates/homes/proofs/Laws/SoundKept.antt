@@ -11,12 +11,12 @@ use Rattle.counting.proofs.Laws.Tests.{both, and-same}
 use Rattle.counting.proofs.Laws.Counting.{only-same}
 use Rattle.table.specs.declared.geometry.Geometry.{Geometry}
 use Rattle.table.specs.Words.{markForm, phaseOf, numberOf, sharedCK1, invCK1, invCK2}
-use Rattle.table.specs.Stores.{Change, Store, entryStore, placeOf, after}
+use Rattle.table.specs.Stores.{Change, Store, entryStore, addressOf, after}
 use Rattle.table.proofs.Laws.Stores.{All, none, more, all-runs, after-length, after-off}
 use Rattle.table.specs.View.{View, live, current, kept, pass}
 use Rattle.table.specs.Copies.{copyNumber, copyValue, backCopy}
 use Rattle.table.proofs.Laws.Copies.{back-number, back-value}
-use Rattle.entries.specs.Tally.{hasKept, keep}
+use Rattle.entries.specs.Tally.{hasKept, keptCopy}
 use Rattle.entries.proofs.Laws.Kinds.{Saved, Kind}
 use Rattle.entries.proofs.Laws.Back.{Pair, backNumber, backValue, hasBack}
 use Rattle.entries.proofs.Laws.Sharers.{kind-left}
@@ -28,7 +28,7 @@ use Rattle.homes.proofs.Laws.Kept.{Kept, Held, kept-held, test-live}
 
 -- a store that is not at word 0
 abbrev pub Off : Geometry → Store → Type 0
-Off g s = 0 ≢ placeOf g s
+Off g s = 0 ≢ addressOf g s
 
 one-off : (g : Geometry) (n b : ℕ) (c : Change) → Off g (entryStore n b c)
 one-off g n b c e = omega arith
@@ -122,7 +122,7 @@ module _ (v w : View) (N b : ℕ) (marks : w .mark ≡ v .mark) where
       has-same : (code k : ℕ) → k < N → hasKept v b code k ≡ hasKept w b code k
       has-same code k l = ap₂ _&&_ (live-same k) (ap (λ c. eqb c code) (sym (h k l)))
 
-      keep-same : (k : ℕ) → k < N → keep v b k ≡ keep w b k
+      keep-same : (k : ℕ) → k < N → keptCopy v b k ≡ keptCopy w b k
       keep-same k l = ap₂ _&&_ (live-same k) (ap (λ c. not (eqb c 0)) (sym (h k l)))
 
 -- ---- the table

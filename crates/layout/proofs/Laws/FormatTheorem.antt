@@ -23,7 +23,7 @@ use Rattle.table.proofs.Laws.Words.{current-state, kept-state}
 use Rattle.table.proofs.Laws.Forms.{alone-form}
 use Rattle.table.specs.Geometry.{allowed, inRanges, geometryOf, wordsOf}
 use Rattle.table.proofs.Laws.Geometry.{sized, roomy, made-allowed}
-use Rattle.table.specs.Stores.{Store, sizeStore, placeOf, wordOf, after, runs}
+use Rattle.table.specs.Stores.{Store, sizeStore, addressOf, wordOf, after, runs}
 use Rattle.table.proofs.Laws.Stores.{All, none, more, all-then, all-runs, after-length, after-off}
 use Rattle.table.specs.View.{Entry, View, view, live, current, kept}
 use Rattle.table.proofs.Laws.Puts.{put₁-case}
@@ -164,14 +164,14 @@ format-accepted t n m f {g} {x} {ss} e = from-made (geometryOf n m f) refl e
 
 -- all stores but the first leave word 0
 first-word :
-    (g : Geometry) (limit : ℕ) {ss : List Store} (t : List ℕ) → All (λ s. 0 ≢ placeOf g s) ss → 0 < limit → 0 < length t
+    (g : Geometry) (limit : ℕ) {ss : List Store} (t : List ℕ) → All (λ s. 0 ≢ addressOf g s) ss → 0 < limit → 0 < length t
     → getD (after g limit (sizeStore g ∷ ss) t) 0 0 ≡ sizeWord (g .nodes) (g .items) (g .frames)
 unfolding after
 first-word g zero t a l k = absurd (omega arith)
 first-word g (suc limit) t a l k =
     after-off g 0 limit (set t 0 (wordOf (sizeStore g))) a ∙ getD-set-same t 0 (wordOf (sizeStore g)) 0 k
 
-format-off : (g : Geometry) → All (λ s. 0 ≢ placeOf g s) (runs firstMark (g .nodes) ++ firstEntries g)
+format-off : (g : Geometry) → All (λ s. 0 ≢ addressOf g s) (runs firstMark (g .nodes) ++ firstEntries g)
 unfolding firstEntries
 format-off g =
     all-then (all-runs firstMark (g .nodes) (λ i l. more (λ e. omega arith) none))

@@ -14,7 +14,7 @@ use Rattle.counting.proofs.Laws.First.{first-le, first-ext}
 use Rattle.table.specs.declared.geometry.Geometry.{Geometry}
 use Rattle.table.specs.Geometry.{entryAt, markAt}
 use Rattle.table.proofs.Laws.Geometry.{entries-apart}
-use Rattle.table.specs.Stores.{Store, Change, sizeStore, markStore, entryStore, Stored, placeOf, partOf}
+use Rattle.table.specs.Stores.{Store, Change, sizeStore, markStore, entryStore, Stored, addressOf, partOf}
 use Rattle.table.proofs.Laws.Stores.{part-low, after-off, All, none, more, all-then}
 use Rattle.table.specs.View.{View, view, updates}
 use Rattle.table.proofs.Laws.View.{mark-read, entry-read, entry-same}
@@ -64,7 +64,7 @@ before-staged g i (suc k) w h l =
     all-then (before-staged g i k w (omega arith) (omega arith))
     (before-partner g i k (updates (staged (partnerStores g) k w) w) (omega arith) (omega arith))
 
-entry-off : (g : Geometry) (i n b k : ℕ) {ss : List Store} → b < g .items → i ≤ b → k < 3 → All (Before g i) ss → All (λ s. entryAt g n b + k ≢ placeOf g s) ss
+entry-off : (g : Geometry) (i n b k : ℕ) {ss : List Store} → b < g .items → i ≤ b → k < 3 → All (Before g i) ss → All (λ s. entryAt g n b + k ≢ addressOf g s) ss
 entry-off g i n b k hb l h none = none
 entry-off g i n b k hb l h (more {s = sizeStore x} p a) = absurd p
 entry-off g i n b k hb l h (more {s = markStore m w} p a) = absurd p
@@ -72,7 +72,7 @@ entry-off g i n b k hb l h (more {s = entryStore m d c} p a) =
     more {s = entryStore m d c} (entries-apart g n b m d k (partOf c) h (part-low c) hb (p .1 .0) (λ _ (e : b ≡ d). omega (arith, p .1 .1)))
     (entry-off g i n b k hb l h a)
 
-mark-off : (g : Geometry) (i n : ℕ) {ss : List Store} → n < g .nodes → All (Before g i) ss → All (λ s. markAt n ≢ placeOf g s) ss
+mark-off : (g : Geometry) (i n : ℕ) {ss : List Store} → n < g .nodes → All (Before g i) ss → All (λ s. markAt n ≢ addressOf g s) ss
 mark-off g i n hn none = none
 mark-off g i n hn (more {s = sizeStore x} p a) = absurd p
 mark-off g i n hn (more {s = markStore m w} p a) = absurd p

@@ -25,8 +25,8 @@ use Rattle.calls.specs.Read.{fetches, fetchFrom, fetchStores, readStores, serve
 use Rattle.calls.specs.Write.{otherChange, otherChanges, otherStores, ownKeep, ownChanges, writeStores}
 use Rattle.homes.specs.Home.{arrivalOf, dropStores, arrivalChanges, takeoverStores, homeOf, homeStoresBy, homeStores}
 use Rattle.homes.specs.Evict.{dropped, sourceStores, movedTo, movedStores, evictStores}
-use Rattle.checkpoints.specs.Create.{hasSharer, partnerStores, createItem}
-use Rattle.checkpoints.specs.Checkpoint.{isPrecommit, entriesTo, commits, commitChange, abandonChange, closeChange}
+use Rattle.checkpoints.specs.Create.{hasSharer, precommit2Stores, createItem}
+use Rattle.checkpoints.specs.Checkpoint.{isPrecommit, entriesTo, toCommit, commitChange, abandonChange, closeChange}
 use Rattle.checkpoints.specs.Commit.{committingMark, committedMark, commitStores, runningMark, abandonStores}
 use Rattle.restore.proofs.Laws.Lengths.{cond-short, then-short, changes-short, pass-short, marks-short, entries-short}
 
@@ -112,8 +112,8 @@ evict-length g v place n b =
 
 -- ---- Create
 
-partner-short : (g : Geometry) (v : View) (b o : ℕ) → length (partnerStores g v b o) ≤ 3
-unfolding partnerStores
+partner-short : (g : Geometry) (v : View) (b o : ℕ) → length (precommit2Stores g v b o) ≤ 3
+unfolding precommit2Stores
 partner-short g v b o = cond-short (hasSharer g v b) _ _ 3 (omega arith) (home-short g v Current (homeOf g v Current o b) b _ (v .entry o b .value))
 
 pub create-length : (g : Geometry) (v : View) (b o : ℕ) → length (createItem g v b o) ≤ 4
@@ -124,7 +124,7 @@ create-length g v b o = omega (arith, partner-short g v b o)
 
 close-short : (way : Closing) (e : Entry) → length (closeChange way e) ≤ 1
 unfolding closeChange commitChange abandonChange
-close-short Committed e = cond-short (commits e) _ [] 1 (omega arith) (omega arith)
+close-short Committed e = cond-short (toCommit e) _ [] 1 (omega arith) (omega arith)
 close-short Abandoned e = cond-short (isPrecommit (current e)) _ [] 1 (omega arith) (omega arith)
 
 pub commit-length : (g : Geometry) (v : View) → length (commitStores g v) ≤ g .nodes + g .nodes * g .items * 1 + g .nodes

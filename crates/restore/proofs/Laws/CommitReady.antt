@@ -34,7 +34,7 @@ use Rattle.homes.proofs.Laws.Serves.{CurrentHave, BackHave, Serves, same-geomet
 use Rattle.survivors.specs.declared.lost.Lost.{Lost}
 use Rattle.counting.proofs.Laws.Exists.{exists-here, exists-at}
 use Rattle.survivors.specs.Survivors.{survivors, carries}
-use Rattle.survivors.specs.Direction.{commits, forwardIn}
+use Rattle.survivors.specs.Direction.{committing, forwardIn}
 use Rattle.recovery.proofs.Laws.Ready.{Holds, Ready}
 use Rattle.restore.proofs.Laws.Surviving.{survivor-mark, survivor-live}
 use Rattle.recovery.proofs.Laws.Largest.{largest-is}
@@ -137,7 +137,7 @@ module _
   -- a survivor in phase 2 chooses the roll forward
   phase-two : (n : ℕ) → Live g left n → phaseOf (left .mark n) ≡ 2 → forwardIn g left ≡ true
   unfolding forwardIn
-  phase-two n l e = exists-here (g .nodes) (commits left) n (l .there) (and-both (live-test g left n l) (eq-eqb (phaseOf (left .mark n)) 2 e))
+  phase-two n l e = exists-here (g .nodes) (committing left) n (l .there) (and-both (live-test g left n l) (eq-eqb (phaseOf (left .mark n)) 2 e))
 
   -- ---- while marks are stored
 

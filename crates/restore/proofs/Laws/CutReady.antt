@@ -31,7 +31,7 @@ use Rattle.recovery.proofs.Laws.Ready.{Ready}
 use Rattle.restore.proofs.Laws.CallsReady.{read-ready, write-ready, evict-ready, open-ready, create-ready, abandon-ready}
 use Rattle.restore.proofs.Laws.CommitReady.{commit-ready}
 use Rattle.restore.specs.Call.{planOf}
-use Rattle.restore.specs.Memory.{Memory, valueIn, savedIn}
+use Rattle.restore.specs.Memory.{Memory, valueOf, savedIn}
 use Rattle.restore.specs.Run.{geometryIn}
 use Rattle.restore.specs.Strike.{canBeCut, isCommit}
 use Rattle.restore.proofs.Laws.Good.{Good}
@@ -48,7 +48,7 @@ module _ (t : List ℕ) (memory : Memory) (commits : ℕ) (good : Good t memory 
 
   -- ready for the save before, or for that of a commit that counts
   abbrev pub ReadyBy : Bool → View → Type 0
-  ReadyBy counts w = Ready G (λ b. cond counts (valueIn memory b) (savedIn memory b)) (cond counts (commits + 1) commits) w
+  ReadyBy counts w = Ready G (λ b. cond counts (valueOf memory b) (savedIn memory b)) (cond counts (commits + 1) commits) w
 
   -- no survivor carries the next number before a commit begins
   pub none-carries : carries G (commits + 1) (survived t) ≡ false
@@ -72,7 +72,7 @@ module _ (t : List ℕ) (memory : Memory) (commits : ℕ) (good : Good t memory 
   committing : (p : Plan) → p ≡ commitOf t → (limit : ℕ) → ReadyBy (carries G (commits + 1) (survived (tableOf p limit t))) (survived (tableOf p limit t))
   committing (refuse r) e limit = rw none-carries (good-ready t memory commits good lost)
   committing nothingLeft e limit = rw none-carries (good-ready t memory commits good lost)
-  committing (carry g x ss) e limit = commit-ready t G (valueIn memory) (savedIn memory) commits (good .serves) (sym e) limit lost
+  committing (carry g x ss) e limit = commit-ready t G (valueOf memory) (savedIn memory) commits (good .serves) (sym e) limit lost
 
   pub cut-ready :
       (call : Call) (scratch limit : ℕ) → canBeCut call ≡ true

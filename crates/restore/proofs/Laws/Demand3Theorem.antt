@@ -21,7 +21,7 @@ use Rattle.restore.specs.declared.call.Call.the-variants.{Format, Check,
 use Rattle.survivors.specs.Survivors.{survivors, carries}
 use Rattle.recovery.proofs.Laws.Recovered.{Recovered}
 use Rattle.restore.specs.Call.{refused, accepted}
-use Rattle.restore.specs.Memory.{Memory, zeros, carried, fed, valueIn, savedIn}
+use Rattle.restore.specs.Memory.{Memory, zeros, carried, fed, valueOf, savedIn}
 use Rattle.restore.specs.Run.{Step, geometryIn, planAt, tableBy, finished, run, toPoint, commitsFrom, memoryFrom, Formatted}
 use Rattle.restore.specs.Strike.{isCommit, Strike, fourteen, attempted, recovered, surviving, commitCounts, memoryBy, commitsBy}
 use Rattle.restore.specs.OneItem.{HasValue}
@@ -69,7 +69,7 @@ commit-is Abandon h = absurd (no-both h refl)
 commit-is (Recover lost) h = absurd (no-both h refl)
 
 -- the plain memory's values after a commit that was not refused
-commit-values : (call : Call) (q : Bool) (m : Memory) (b : ℕ) → call ≡ Commit → q ≡ false → valueIn (fed call q m) b ≡ valueIn m b
+commit-values : (call : Call) (q : Bool) (m : Memory) (b : ℕ) → call ≡ Commit → q ≡ false → valueOf (fed call q m) b ≡ valueOf m b
 commit-values call q m b e f = rw (e, f) refl
 
 -- a value known at a geometry and under another name
@@ -104,13 +104,13 @@ module _ (t₀ : List ℕ) (formatted : Formatted t₀) (calls : List Step) (str
   counted-finished h = finished-by (planAt now (strike .cut .next)) (both (isCommit (strike .cut .next .call)) h .1)
 
   -- the cut commit counts: it is carried out there
-  with-commit : commitCounts strike done ≡ true → (b : ℕ) → b < g .items → HasValue (view g (tableBy now (strike .cut .next))) b (valueIn fedList b)
+  with-commit : commitCounts strike done ≡ true → (b : ℕ) → b < g .items → HasValue (view g (tableBy now (strike .cut .next))) b (valueOf fedList b)
   with-commit h b l =
       let s = strike .cut .next in
       let c = commit-is (s .call) (both (isCommit (s .call)) h .0) in
       let same = shape-geometry (tableBy now s) g (cut-shape now fedList done good (s .call) (s .scratch) _ (strike .cut .cuttable)) in
       let next = good-call now fedList done good (recover-good now fedList done good) (recover-something now) s in
-      has-as (geometryIn (tableBy now s)) g (tableBy now s) b _ (valueIn fedList b) same (commit-values (s .call) (refused (planAt now s)) fedList b c (not-true (refused (planAt now s)) (counted-finished h)))
+      has-as (geometryIn (tableBy now s)) g (tableBy now s) b _ (valueOf fedList b) same (commit-values (s .call) (refused (planAt now s)) fedList b c (not-true (refused (planAt now s)) (counted-finished h)))
       (good-has (tableBy now s) _ _ next b (subst (λ h. b < h .items) (sym same) l))
 
   -- it does not: the last point of the list, or the formatted table

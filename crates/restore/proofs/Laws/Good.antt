@@ -10,11 +10,11 @@ use Rattle.entries.specs.declared.check.Checked.the-variants.{Passed}
 use Rattle.entries.specs.Check.{faultOf}
 use Rattle.entries.proofs.Laws.CheckFacts.{Shape, accepted-facts}
 use Rattle.homes.proofs.Laws.Serves.{Serves}
-use Rattle.restore.specs.Memory.{Memory, valueIn, savedIn}
+use Rattle.restore.specs.Memory.{Memory, valueOf, savedIn}
 use Rattle.restore.specs.Run.{geometryIn}
 
 pub record Good (t : List ℕ) (memory : Memory) (commits : ℕ) : Type 0 where
-  pub serves : Serves t (geometryIn t) (valueIn memory) (savedIn memory) commits
+  pub serves : Serves t (geometryIn t) (valueOf memory) (savedIn memory) commits
   pub values-size : length (memory .values) ≡ geometryIn t .items
   pub saved-size : length (memory .saved) ≡ geometryIn t .items
 
@@ -44,7 +44,7 @@ serves-as t g values values′ saved saved′ number p q s = record {
 }
 
 pub good-by :
-    (t : List ℕ) (g : Geometry) (memory : Memory) (commits : ℕ) → Serves t g (valueIn memory) (savedIn memory) commits
+    (t : List ℕ) (g : Geometry) (memory : Memory) (commits : ℕ) → Serves t g (valueOf memory) (savedIn memory) commits
     → length (memory .values) ≡ g .items → length (memory .saved) ≡ g .items → Good t memory commits
 good-by t g memory commits s p q =
     let e = passed-geometry t g (s .passed) in

@@ -44,7 +44,7 @@ use Rattle.restore.specs.declared.call.Call.{Call}
 use Rattle.restore.specs.declared.call.Call.the-variants.{Format, Check, Stretch, Read, Write, Evict, Open, Create, Commit, Abandon, Recover}
 use Rattle.recovery.specs.Recover.{recoverOf}
 use Rattle.restore.specs.Call.{planOf, refused}
-use Rattle.restore.specs.Memory.{Memory, carried, fed, valueIn, savedIn}
+use Rattle.restore.specs.Memory.{Memory, carried, fed, valueOf, savedIn}
 use Rattle.restore.specs.Run.{Step, geometryIn, wholeTable, commitsWith, tableBy, memoryWith, commitsAfter}
 use Rattle.restore.proofs.Laws.Good.{Good, good-by}
 use Rattle.restore.proofs.Laws.GoodStep.{good-format, good-plan, good-same, good-write}
@@ -111,7 +111,7 @@ module _ (t : List ℕ) (memory : Memory) (commits : ℕ) (good : Good t memory 
   nothing-stored : (g : Geometry) (ss : List Store) → ss ≡ [] → Good (after g (length ss) ss t) memory commits
   nothing-stored g ss e = rw (e, after-none g 0 t) good
 
-  here : Serves t (geometryIn t) (valueIn memory) (savedIn memory) commits
+  here : Serves t (geometryIn t) (valueOf memory) (savedIn memory) commits
   here = good .serves
 
   abbrev G : Geometry
@@ -120,7 +120,7 @@ module _ (t : List ℕ) (memory : Memory) (commits : ℕ) (good : Good t memory 
   -- a call that serves the same values, at the limit of all its stores
   same :
       (call : Call) (p : Plan) → carried call memory ≡ memory → commitsWith call commits ≡ commits
-      → ((g : Geometry) (x : ℕ) (ss : List Store) → p ≡ carry g x ss → Serves (after g (length ss) ss t) G (valueIn memory) (savedIn memory) commits)
+      → ((g : Geometry) (x : ℕ) (ss : List Store) → p ≡ carry g x ss → Serves (after g (length ss) ss t) G (valueOf memory) (savedIn memory) commits)
       → Good (wholeTable p t) (fed call (refused p) memory) (cond (not (refused p)) (commitsWith call commits) commits)
   same call p m c f =
       good-plan t memory commits good call p (λ g x ss e. rw (m, c) (good-same t memory commits good _ (f g x ss e))) (λ e. rw (m, c) good)

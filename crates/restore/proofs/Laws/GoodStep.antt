@@ -25,7 +25,7 @@ use Rattle.calls.proofs.Laws.WriteServes.{written, write-serves}
 use Rattle.calls.specs.Write.{writeOf}
 use Rattle.restore.specs.declared.call.Call.{Call}
 use Rattle.restore.specs.Call.{refused, accepted}
-use Rattle.restore.specs.Memory.{Memory, zeros, carried, fed, valueIn, savedIn}
+use Rattle.restore.specs.Memory.{Memory, zeros, carried, fed, valueOf, savedIn}
 use Rattle.restore.specs.Run.{geometryIn, wholeTable, commitsWith, Formatted}
 use Rattle.recovery.proofs.Laws.RecoverPlan.{refused-not}
 use Rattle.restore.proofs.Laws.Good.{Good, good-by, serves-as}
@@ -81,7 +81,7 @@ module _ (t : List ℕ) (memory : Memory) (commits : ℕ) (good : Good t memory 
 
   -- a call that serves the same values
   pub good-same :
-      (t′ : List ℕ) → Serves t′ (geometryIn t) (valueIn memory) (savedIn memory) commits → Good t′ memory commits
+      (t′ : List ℕ) → Serves t′ (geometryIn t) (valueOf memory) (savedIn memory) commits → Good t′ memory commits
   good-same t′ s = good-by t′ (geometryIn t) memory commits s (good .values-size) (good .saved-size)
 
   -- an accepted write is of one of the items
@@ -100,7 +100,7 @@ module _ (t : List ℕ) (memory : Memory) (commits : ℕ) (good : Good t memory 
       (serves-as _ (geometryIn t) _ _ _ _ commits value-of (λ c h. refl) (write-serves t (geometryIn t) _ _ commits (good .serves) n b x e (length ss) (omega arith)))
       (length-set (memory .values) b x ∙ good .values-size) (good .saved-size)
     where
-      value-of : (c : ℕ) → c < geometryIn t .items → written (valueIn memory) b x c ≡ getD (set (memory .values) b x) c 0
+      value-of : (c : ℕ) → c < geometryIn t .items → written (valueOf memory) b x c ≡ getD (set (memory .values) b x) c 0
       value-of c h = elim (ℕ-discrete c b) [
         | yes q ↦ rw (q, eq-eqb b b refl) (sym (getD-set-same (memory .values) b x 0 (write-inside n b x e)))
         | no q ↦ rw (ne-eqb c b q) (sym (getD-set-other (memory .values) b c x 0 q))

@@ -10,7 +10,7 @@ use Rattle.entries.specs.Tally.{copy}
 use Rattle.entries.proofs.Laws.Kinds.{Owned, modified-at, owner-at, Kind, clean, dirty, created, has-copy, copy-live, copy-code}
 use Rattle.entries.proofs.Laws.CheckFacts.{accepted-facts}
 use Rattle.homes.proofs.Laws.Kept.{test-live}
-use Rattle.restore.specs.Memory.{Memory, valueIn}
+use Rattle.restore.specs.Memory.{Memory, valueOf}
 use Rattle.restore.specs.Run.{geometryIn}
 use Rattle.restore.specs.OneItem.{HasValue}
 use Rattle.restore.proofs.Laws.HitReady.{live-inside}
@@ -28,7 +28,7 @@ kind-copy phase v N b (created e k) = (k .one, has-copy v b (k .one) precommit1 
 
 pub good-has :
     (t : List ℕ) (memory : Memory) (commits : ℕ) → Good t memory commits → (b : ℕ) → b < geometryIn t .items
-    → HasValue (view (geometryIn t) t) b (valueIn memory b)
+    → HasValue (view (geometryIn t) t) b (valueOf memory b)
 good-has t memory commits good b h =
     let g = geometryIn t in
     let v = view g t in

@@ -23,7 +23,7 @@ use Rattle.homes.proofs.Laws.Serves.{BackHave, Serves}
 use Rattle.survivors.specs.declared.lost.Lost.{Lost}
 use Rattle.counting.proofs.Laws.Exists.{exists-not}
 use Rattle.survivors.specs.Survivors.{survivors}
-use Rattle.survivors.specs.Direction.{commits, forwardIn}
+use Rattle.survivors.specs.Direction.{committing, forwardIn}
 use Rattle.recovery.proofs.Laws.Ready.{Holds, Ready}
 use Rattle.restore.proofs.Laws.Surviving.{survivor-mark, survivor-live}
 use Rattle.recovery.proofs.Laws.Largest.{largest-is}
@@ -64,7 +64,7 @@ pub chosen-back :
 unfolding forwardIn
 chosen-back g number w forms phases numbers m l = record {
   marks = forms;
-  side = exists-not (g .nodes) (commits w) (λ n h. by-cases (live w n)
+  side = exists-not (g .nodes) (committing w) (λ n h. by-cases (live w n)
       (λ t. rw (t, ne-eqb (phaseOf (w .mark n)) 2 (phases n (test-live g w n h t))) refl)
       (λ t. rw t refl));
   point = largest-is g w number (λ n k. let e = numbers n k in omega arith) m l (numbers m l);

@@ -14,7 +14,7 @@ use Rattle.calls.specs.Write.{writeOf}
 use Rattle.restore.specs.declared.call.Call.{Call}
 use Rattle.restore.specs.declared.call.Call.the-variants.{Format, Check, Stretch, Read, Write, Evict, Open, Create, Commit, Abandon, Recover}
 use Rattle.restore.specs.Call.{planOf, refused}
-use Rattle.restore.specs.Memory.{Memory, carried, fed, valueIn, savedIn}
+use Rattle.restore.specs.Memory.{Memory, carried, fed, valueOf, savedIn}
 use Rattle.restore.specs.Run.{Step, finished, memoryWith}
 use Rattle.restore.specs.History.{History, begun, wholeCall, struckCall, writtenBy, lastWritten}
 use Rattle.restore.specs.Demand2.{orElse}
@@ -28,11 +28,11 @@ or-itself : (w : Option ℕ) (x y : ℕ) → x ≡ orElse w y → x ≡ orElse w
 or-itself none x y e = refl
 or-itself (some z) x y e = e
 
-module _ (t : List ℕ) (memory : Memory) (commits : ℕ) (good : Good t memory commits) (b : ℕ) (w : Option ℕ) (now : valueIn memory b ≡ orElse w (savedIn memory b)) where
+module _ (t : List ℕ) (memory : Memory) (commits : ℕ) (good : Good t memory commits) (b : ℕ) (w : Option ℕ) (now : valueOf memory b ≡ orElse w (savedIn memory b)) where
   -- a call that was not refused
   written-after :
       (scratch : ℕ) (call : Call) → refused (planOf t scratch call) ≡ false
-      → valueIn (carried call memory) b ≡ orElse (writtenBy call b w) (savedIn (carried call memory) b)
+      → valueOf (carried call memory) b ≡ orElse (writtenBy call b w) (savedIn (carried call memory) b)
   unfolding planOf
   written-after scratch (Format n m f) a = refl
   written-after scratch Check a = now
@@ -57,17 +57,17 @@ module _ (t : List ℕ) (memory : Memory) (commits : ℕ) (good : Good t memory 
   -- any call
   written-step :
       (s : Step)
-      → valueIn (memoryWith t s memory) b ≡ orElse (cond (finished t s) (writtenBy (s .call) b w) w) (savedIn (memoryWith t s memory) b)
+      → valueOf (memoryWith t s memory) b ≡ orElse (cond (finished t s) (writtenBy (s .call) b w) w) (savedIn (memoryWith t s memory) b)
   written-step s = go (refused (planOf t (s .scratch) (s .call))) refl
     where
       go : (q : Bool) → refused (planOf t (s .scratch) (s .call)) ≡ q
-          → valueIn (fed (s .call) q memory) b ≡ orElse (cond (not q) (writtenBy (s .call) b w) w) (savedIn (fed (s .call) q memory) b)
+          → valueOf (fed (s .call) q memory) b ≡ orElse (cond (not q) (writtenBy (s .call) b w) w) (savedIn (fed (s .call) q memory) b)
       go true e = now
       go false e = written-after (s .scratch) (s .call) e
 
 pub last-written :
     {t : List ℕ} {memory : Memory} {commits : ℕ} (h : History t memory commits) (b : ℕ)
-    → valueIn memory b ≡ orElse (lastWritten h b) (savedIn memory b)
+    → valueOf memory b ≡ orElse (lastWritten h b) (savedIn memory b)
 unfolding lastWritten
 last-written (begun t f) b = refl
 last-written (wholeCall {t} {memory} {commits} h s) b = written-step t memory commits (history-good h) b (lastWritten h b) (last-written h b) s

@@ -6,7 +6,7 @@ use mathlib.Core.List.{List, [], _∷_, _++_, map}
 use native.Mathlib.Omega.{arith}
 use lib.ListN.{length, set, length-append, length-map}
 use Rattle.table.specs.declared.geometry.Geometry.{Geometry}
-use Rattle.table.specs.Stores.{Change, Store, entryStore, placeOf, wordOf, after, runs}
+use Rattle.table.specs.Stores.{Change, Store, entryStore, addressOf, wordOf, after, runs}
 use Rattle.table.specs.View.{Entry, View, live, updates, pass, markTo, marksTo}
 use Rattle.checkpoints.specs.Checkpoint.{liveChanges, entriesBefore, entriesTo}
 use Rattle.recovery.specs.Numbering.{staged}
@@ -62,4 +62,4 @@ unfolding after
 after-past g zero [] t h = refl
 after-past g zero (s ∷ ss) t h = absurd (omega arith)
 after-past g (suc limit) [] t h = refl
-after-past g (suc limit) (s ∷ ss) t h = after-past g limit ss (set t (placeOf g s) (wordOf s)) (omega arith)
+after-past g (suc limit) (s ∷ ss) t h = after-past g limit ss (set t (addressOf g s) (wordOf s)) (omega arith)

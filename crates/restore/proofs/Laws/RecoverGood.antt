@@ -25,7 +25,7 @@ use Rattle.recovery.proofs.Laws.RecoverPlan.{recover-carries}
 use Rattle.recovery.proofs.Laws.Ready.{Ready}
 use Rattle.recovery.proofs.Laws.RecoverTheorem.{recover-serves}
 use Rattle.restore.proofs.Laws.KeptReady.{kept-ready}
-use Rattle.restore.specs.Memory.{Memory, valueIn, savedIn}
+use Rattle.restore.specs.Memory.{Memory, valueOf, savedIn}
 use Rattle.restore.specs.Run.{geometryIn}
 use Rattle.restore.proofs.Laws.Good.{Good, good-by}
 
@@ -57,7 +57,7 @@ module _ (t : List ℕ) (memory : Memory) (commits : ℕ) (good : Good t memory 
   good-kept = kept-begins G (view G t) _ _ (accepted-facts t G (good .serves .passed) .table)
 
   pub good-ready : (lost : Lost) → Ready G (savedIn memory) commits (survivors lost (view G t))
-  good-ready lost = kept-ready t G (valueIn memory) (savedIn memory) commits (good .serves) (view G t) good-kept lost
+  good-ready lost = kept-ready t G (valueOf memory) (savedIn memory) commits (good .serves) (view G t) good-kept lost
 
   pub recover-good :
       (lost : Lost) (scratch : ℕ) (g : Geometry) (x : ℕ) (ss : List Store) → recoverOf t lost scratch ≡ carry g x ss

@@ -35,7 +35,7 @@ use Rattle.calls.specs.Read.{servesAt, serverOf, fetchFrom, readStores, readVal
 use Rattle.calls.specs.Write.{otherChanges, otherStores, ownKeep, keptAfter, ownChanges, writeStores}
 use Rattle.homes.specs.Evict.{sourceStores, movedTo, evictStores, placeAdmission}
 use Rattle.checkpoints.specs.Open.{startAdmission}
-use Rattle.checkpoints.specs.Create.{sharesAt, sharerOf, partnerStores as createdPartner, createItem, noPartner, createPlan}
+use Rattle.checkpoints.specs.Create.{sharesAt, sharerOf, precommit2Stores, createItem, noPartner, createPlan}
 use Rattle.checkpoints.specs.Commit.{commitStores, createdAdmission}
 use Rattle.survivors.specs.Survivors.{lostBy, survivorCount, tooFewWith, tooFew, largest, largestNumber, closingStores}
 use Rattle.recovery.specs.Sides.{copiesOn, itemFits, itemsFit, bringBack, settled, rollChange, rollStores}
@@ -96,7 +96,7 @@ unfolding every sum count first firstOr valuesOf geometryOf changeOf runs after 
     nodeAfter fitsAfter passedOver homeOf droppedItem currentLeft arrivalOf dropStores arrivalChanges homeStoresBy
     homeStores servesAt serverOf fetchFrom readStores readValue otherChanges otherStores ownKeep keptAfter
     ownChanges writeStores sourceStores movedTo evictStores placeAdmission startAdmission sharesAt sharerOf
-    createdPartner createItem noPartner createPlan commitStores createdAdmission exists survivorCount forwardIn
+    precommit2Stores createItem noPartner createPlan commitStores createdAdmission exists survivorCount forwardIn
     copiesOn itemFits itemsFit bringBack settled rollChange rollStores holders numberAfter numberChange numberStores
     single holderOf takes takesAfter partnerOf partnerChanges partnerFrom partnerStores staged partnersStores
     largest largestNumber closingStores followed survivorStores recoverStores survivorsFormed tooFewWith tooFew

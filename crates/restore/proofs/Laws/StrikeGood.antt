@@ -28,7 +28,7 @@ use Rattle.recovery.proofs.Laws.Ready.{Ready}
 use Rattle.recovery.proofs.Laws.Recovered.{Recovered}
 use Rattle.recovery.proofs.Laws.RecoverTheorem.{going-few, recover-accepts, recover-leaves, recover-serves}
 use Rattle.restore.specs.Call.{accepted}
-use Rattle.restore.specs.Memory.{Memory, carried, valueIn, savedIn}
+use Rattle.restore.specs.Memory.{Memory, carried, valueOf, savedIn}
 use Rattle.restore.specs.Run.{geometryIn}
 use Rattle.restore.specs.Strike.{cutTable, liveOrNone, Strike, fourteen, attempted, lastRecovery, recovered, surviving, commitCounts, memoryBy, commitsBy}
 use Rattle.restore.proofs.Laws.Good.{Good, passed-geometry, good-by}
@@ -54,7 +54,7 @@ module _ (t : List ℕ) (memory : Memory) (commits : ℕ) (good : Good t memory 
 
   -- by whether the commit counts
   by-counts :
-      (q : Bool) (k : ℕ) (w : View) → Ready G (λ b. cond q (valueIn memory b) (savedIn memory b)) k w
+      (q : Bool) (k : ℕ) (w : View) → Ready G (λ b. cond q (valueOf memory b) (savedIn memory b)) k w
       → Ready G (savedIn (carried (Recover (s .lost)) (cond q (carried Commit memory) memory))) k w
   by-counts true k w r = r
   by-counts false k w r = r

@@ -11,7 +11,7 @@ use borrow.Author.Tests.{leb-false}
 use Rattle.table.specs.declared.geometry.Geometry.{Geometry}
 use Rattle.table.specs.Geometry.{markAt}
 use Rattle.table.specs.Words.{numberOf, markWord}
-use Rattle.table.specs.Stores.{Stored, markStore, placeOf, runs}
+use Rattle.table.specs.Stores.{Stored, markStore, addressOf, runs}
 use Rattle.table.proofs.Laws.Stores.{All, none, more, all-runs, after-off, loop-turns, stored-none}
 use Rattle.table.specs.View.{View, view, live, markTo, marksTo}
 use Rattle.survivors.specs.declared.lost.Lost.{Lost}
@@ -44,7 +44,7 @@ marks-off g w f k {left} {t = t} s =
     ap (λ x. cond (ltb k (g .nodes)) x 0)
     (rw (s .table) (after-off g (markAt k) left t (all-runs (markTo w f) k (λ i l. go i l (live w i)))))
   where
-    go : (i : ℕ) → i < k → (b : Bool) → All (λ s. markAt k ≢ placeOf g s) (cond b (markStore i (f (w .mark i)) ∷ []) [])
+    go : (i : ℕ) → i < k → (b : Bool) → All (λ s. markAt k ≢ addressOf g s) (cond b (markStore i (f (w .mark i)) ∷ []) [])
     go i l true = more {s = markStore i (f (w .mark i))} (λ (e : markAt k ≡ markAt i). omega arith) none
     go i l false = none
 

@@ -12,7 +12,7 @@ use lib.ListN.{length, getD, set, length-set, length-append}
 use lib.Seq.{set-out, getD-set-other}
 use Rattle.counting.specs.Counting.{sum}
 use Rattle.table.specs.declared.geometry.Geometry.{Geometry}
-use Rattle.table.specs.Stores.{Change, stateTo, valueTo, keptTo, Store, entryStore, partOf, placeOf, wordOf, after, runs, Stored, StoredIn, written, Wrote}
+use Rattle.table.specs.Stores.{Change, stateTo, valueTo, keptTo, Store, entryStore, partOf, addressOf, wordOf, after, runs, Stored, StoredIn, written, Wrote}
 
 -- ---- the encoding: which word, and what is written
 
@@ -40,7 +40,7 @@ unfolding after
 after-append g zero [] ys t = refl
 after-append g zero (x ∷ xs) ys t = rw zero-sub (sym (after-zero g ys t))
 after-append g (suc left) [] ys t = rw sub-zero
-after-append g (suc left) (x ∷ xs) ys t = rw suc-sub-suc (after-append g left xs ys (set t (placeOf g x) (wordOf x)))
+after-append g (suc left) (x ∷ xs) ys t = rw suc-sub-suc (after-append g left xs ys (set t (addressOf g x) (wordOf x)))
 
 -- the three ways of `store`: nothing left, past the end, written
 pub wrote-cut : (left at word : ℕ) (t : List ℕ) → left ≡ 0 → Wrote left at word t t left
@@ -60,14 +60,14 @@ wrote-past left at word t h k =
 
 -- a word written where and as a store says is that store
 pub stored-one :
-    (g : Geometry) (s : Store) {left left′ at word : ℕ} {t t′ : List ℕ} → Wrote left at word t t′ left′ → at ≡ placeOf g s → word ≡ wordOf s
+    (g : Geometry) (s : Store) {left left′ at word : ℕ} {t t′ : List ℕ} → Wrote left at word t t′ left′ → at ≡ addressOf g s → word ≡ wordOf s
     → Stored g left (s ∷ []) t t′ left′
 unfolding written after
 stored-one g s {left} {at = at} {word} {t} w p q = record { table = w .table ∙ one left; rest = w .rest; size = w .size }
   where
     one : (left : ℕ) → written left at word t ≡ after g left (s ∷ []) t
     one zero = refl
-    one (suc left) = rw (p, q) (sym (after-none g left (set t (placeOf g s) (wordOf s))))
+    one (suc left) = rw (p, q) (sym (after-none g left (set t (addressOf g s) (wordOf s))))
 
 pub stored-none : (g : Geometry) (left : ℕ) (t : List ℕ) → Stored g left [] t t left
 stored-none g left t = record { table = sym (after-none g left t); rest = omega arith; size = refl }
@@ -157,7 +157,7 @@ unfolding after
 after-length g zero [] t = refl
 after-length g zero (s ∷ ss) t = refl
 after-length g (suc limit) [] t = refl
-after-length g (suc limit) (s ∷ ss) t = after-length g limit ss (set t (placeOf g s) (wordOf s)) ∙ length-set t (placeOf g s) (wordOf s)
+after-length g (suc limit) (s ∷ ss) t = after-length g limit ss (set t (addressOf g s) (wordOf s)) ∙ length-set t (addressOf g s) (wordOf s)
 
 -- every store of a list
 pub data All (P : Store → Type 0) : List Store → Type 0 where
@@ -175,10 +175,10 @@ all-runs f (suc n) h = all-then (all-runs f n (λ i l. h i (omega arith))) (h n 
 
 -- a word that no store is at
 pub after-off :
-    (g : Geometry) (i limit : ℕ) {ss : List Store} (t : List ℕ) → All (λ s. i ≢ placeOf g s) ss → getD (after g limit ss t) i 0 ≡ getD t i 0
+    (g : Geometry) (i limit : ℕ) {ss : List Store} (t : List ℕ) → All (λ s. i ≢ addressOf g s) ss → getD (after g limit ss t) i 0 ≡ getD t i 0
 unfolding after
 after-off g i zero t none = refl
 after-off g i zero t (more p a) = refl
 after-off g i (suc limit) t none = refl
 after-off g i (suc limit) t (more {s} p a) =
-    after-off g i limit (set t (placeOf g s) (wordOf s)) a ∙ getD-set-other t (placeOf g s) i (wordOf s) 0 p
+    after-off g i limit (set t (addressOf g s) (wordOf s)) a ∙ getD-set-other t (addressOf g s) i (wordOf s) 0 p

@@ -14,7 +14,7 @@ use Rattle.table.specs.declared.geometry.Geometry.{Geometry}
 use Rattle.counting.proofs.Laws.Tests.{both}
 use Rattle.table.specs.Geometry.{markAt, entryAt, wordsOf}
 use Rattle.table.proofs.Laws.Geometry.{entry-within, entries-apart}
-use Rattle.table.specs.Stores.{Change, stateTo, valueTo, keptTo, partOf, changeWord, Store, sizeStore, markStore, entryStore, placeOf, wordOf, after}
+use Rattle.table.specs.Stores.{Change, stateTo, valueTo, keptTo, partOf, changeWord, Store, sizeStore, markStore, entryStore, addressOf, wordOf, after}
 use Rattle.table.proofs.Laws.Stores.{part-low, All, none, more}
 use Rattle.table.specs.View.{view, entryIn, blank, there, changed, update, updates}
 use Rattle.table.proofs.Laws.View.{entry-same}
@@ -81,7 +81,7 @@ module _ (g : Geometry) (t : List ℕ) where
     mark-here n w hn = rw (lt-ltb n (g .nodes) hn) (getD-set-same t (markAt n) w 0 (omega arith))
 
     -- one store
-    pub view-store : (s : Store) → Within g s → view g (set t (placeOf g s) (wordOf s)) ≡ update s (view g t)
+    pub view-store : (s : Store) → Within g s → view g (set t (addressOf g s) (wordOf s)) ≡ update s (view g t)
     view-store (sizeStore h) _ = λ i. record {
       mark = fun-ext (λ n. mark-off 0 (wordOf (sizeStore h)) n (λ _ e. absurd (omega arith))) i;
       entry = fun-ext (λ n. fun-ext (λ b. entry-off 0 (wordOf (sizeStore h)) n b (λ _ _ k _ e. absurd (omega arith)))) i;
@@ -108,4 +108,4 @@ view-after g zero t h none = refl
 view-after g zero t h (more w a) = refl
 view-after g (suc limit) t h none = refl
 view-after g (suc limit) t h (more {s} {ss} w a) =
-    view-after g limit (set t (placeOf g s) (wordOf s)) (rw length-set h) a ∙ ap (updates (take limit ss)) (view-store g t h s w)
+    view-after g limit (set t (addressOf g s) (wordOf s)) (rw length-set h) a ∙ ap (updates (take limit ss)) (view-store g t h s w)

@@ -5,13 +5,13 @@ use Rattle.table.specs.View.{view}
 use Rattle.survivors.specs.Survivors.{survivors}
 use Rattle.counting.specs.Counting.{exists}
 use Rattle.counting.proofs.Laws.Exists.{exists-none, exists-next, exists-ends}
-use Rattle.survivors.specs.Direction.{commits, forwardIn}
+use Rattle.survivors.specs.Direction.{committing, forwardIn}
 use borrow.Author.Needs.{needs}
 use Rattle.survivors.proofs.direction.forward_in.Statement.{statement}
 use Rattle.survivors.proofs.direction.forward_in.Tie as tie
 
 abbrev Inv-loop : tie.InvT-loop
-Inv-loop table g lost nodes any₀ node₀ any node = (node ≤ g .nodes) × (any ≡ exists (commits (survivors lost (view g table))) node)
+Inv-loop table g lost nodes any₀ node₀ any node = (node ≤ g .nodes) × (any ≡ exists (committing (survivors lost (view g table))) node)
 
 abbrev μ-loop : tie.MeasureT-loop
 μ-loop table g lost nodes any₀ node₀ any node = g .nodes - node
