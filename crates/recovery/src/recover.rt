@@ -92,7 +92,7 @@ fn pair(
 }
 
 // What is stored on the survivors, stage by stage.
-fn restore(
+fn survivor_stores(
     table: &mut [u64],
     left: u64,
     g: Geometry,
@@ -130,7 +130,7 @@ fn recover_stores(
 {
     let words = scratch_words(g);
     let left = marks::store_lost(table, left, g, lost);
-    let left = restore(
+    let left = survivor_stores(
         table,
         left,
         g,

@@ -9,6 +9,7 @@ use lib.Dec.{ltb}
 use lib.ListN.{getD}
 use Rattle.counting.specs.Counting.{one, sum, count}
 use Rattle.table.specs.declared.geometry.Geometry.{Geometry}
+use Rattle.table.specs.Words.{sharedCK1, sharedCK2}
 use Rattle.table.specs.View.{View}
 use Rattle.entries.specs.Tally.{has}
 
@@ -22,13 +23,13 @@ stepOf n = 1 + 2 ^ 20 * n
 
 -- the digits of node n's copy
 abbrev pub copyWeight : View → ℕ → ℕ → ℕ
-copyWeight w b n = one (has w b 4 n) + 1024 * one (has w b 5 n)
+copyWeight w b n = one (has w b sharedCK1 n) + 1024 * one (has w b sharedCK2 n)
 
 unfoldable pub nodesOf : Geometry → View → ℕ → ℕ
 nodesOf g w b = sum (λ n. copyWeight w b n * n) (g .nodes)
 
 unfoldable pub tallyOf : Geometry → View → ℕ → ℕ
-tallyOf g w b = count (has w b 4) (g .nodes) + 1024 * count (has w b 5) (g .nodes) + 2 ^ 20 * nodesOf g w b
+tallyOf g w b = count (has w b sharedCK1) (g .nodes) + 1024 * count (has w b sharedCK2) (g .nodes) + 2 ^ 20 * nodesOf g w b
 
 -- a tally for each item
 abbrev pub Tallied : Geometry → View → List ℕ → Type 0

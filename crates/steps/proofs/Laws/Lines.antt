@@ -25,9 +25,6 @@ digits-short zero n = omega arith
 digits-short (suc k) n =
     by-cases (ltb n 10) (λ e. rw e (omega arith)) (λ e. rw (e, length-append) (omega (arith, digits-short k (n / 10))))
 
-pub field-short : (n end : ℕ) → length (field n end) ≤ 21
-field-short n end = rw length-append (omega (arith, digits-short 20 n))
-
 pub line-short : (number : ℕ) (n : Numbers) → length (lineBytes number n) ≤ 84
 unfolding lineBytes
 line-short number n =

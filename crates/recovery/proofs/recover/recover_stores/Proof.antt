@@ -4,8 +4,8 @@ use borrow.Author.Needs.{needs}
 use Rattle.recovery.proofs.recover.recover_stores.Statement.{statement}
 use Rattle.recovery.proofs.recover.recover_stores.Tie as tie
 
-restore-requires : tie.Need-restore-requires
-restore-requires c κs =
+survivor-stores-requires : tie.Need-survivor-stores-requires
+survivor-stores-requires c κs =
     let l = c .before .before .before .before .before in
     let o = l .before .before .before .before .before .before .before .before in
     restore-ready (o .args .g) (o .args .lost) _ (o .pre) (l .store-lost .ensures)
@@ -16,7 +16,7 @@ returns c =
     let r = e .before .before .before .before .before .before .before .before in
     let l = r .before .before .before .before .before .before in
     let o = l .before .before .before .before .before .before .before .before in
-    recovered _ _ (o .pre .carriable) (l .before .before .scratch-words .ensures) (l .store-lost .ensures) (r .restore .ensures) (e .clear .ensures)
+    recovered _ _ (o .pre .carriable) (l .before .before .scratch-words .ensures) (l .store-lost .ensures) (r .survivor-stores .ensures) (e .clear .ensures)
 
 pub recover-stores-spec : {M : Type 1} → statement M
 recover-stores-spec =
@@ -24,7 +24,7 @@ recover-stores-spec =
     (tie.spec
     (λ c κs. search needs)
     (λ c κs. search needs)
-    restore-requires
+    survivor-stores-requires
     (λ c κs. search needs)
     (λ c. search needs)
     (λ c. search needs)

@@ -1,8 +1,8 @@
--- `restore` meets its contract: the stages, each on the table that it finds. Assumes nothing.
+-- `survivor_stores` meets its contract: the stages, each on the table that it finds. Assumes nothing.
 use Rattle.recovery.proofs.Laws.RecoverCode.{restore-pairable, restored}
 use borrow.Author.Needs.{needs}
-use Rattle.recovery.proofs.recover.restore.Statement.{statement}
-use Rattle.recovery.proofs.recover.restore.Tie as tie
+use Rattle.recovery.proofs.recover.survivor_stores.Statement.{statement}
+use Rattle.recovery.proofs.recover.survivor_stores.Tie as tie
 
 pair-requires : tie.Need-pair-requires
 pair-requires c κs =
@@ -18,8 +18,8 @@ returns c =
     let o = r .before .before .before .before .before .before .before .before in
     restored (o .args .g) (o .args .lost) (o .pre) (r .roll .ensures) (p .pair .ensures) (d .close .ensures)
 
-pub restore-spec : {M : Type 1} → statement M
-restore-spec =
+pub survivor-stores-spec : {M : Type 1} → statement M
+survivor-stores-spec =
     tie.close
     (tie.spec
     (λ c κs. search needs)
