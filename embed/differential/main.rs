@@ -9,6 +9,7 @@
 mod calls;
 mod choices;
 mod library;
+mod on_library;
 mod random;
 mod reference;
 mod tables;

@@ -440,8 +440,8 @@ fn checked_open(table: &[u64]) -> Result<Sound, u64> {
 
 // Answers.
 
-/// A carried-out call: its value and its list of stores; or a number that stores nothing.
-type Plan = Result<(u64, Vec<(usize, u64)>), u64>;
+/// A carried-out call: its value and its list of stores (place, word); or a number that stores nothing.
+pub type Plan = Result<(u64, Vec<(usize, u64)>), u64>;
 
 /// Makes the first `limit` stores of the plan.
 fn carry_out(table: &mut [u64], plan: Plan, limit: u64) -> Outcome {
@@ -483,7 +483,7 @@ pub fn format(table: &mut [u64], nodes: u64, items: u64, frames: u64, limit: u64
     carry_out(table, plan, limit)
 }
 
-fn format_plan(length: usize, nodes: u64, items: u64, frames: u64) -> Plan {
+pub fn format_plan(length: usize, nodes: u64, items: u64, frames: u64) -> Plan {
     let geometry = Geometry::new(nodes, items, frames).ok_or(NO_GEOMETRY)?;
     if length < geometry.words() {
         return Err(TOO_SHORT);
@@ -517,7 +517,7 @@ fn serves(current: Current) -> bool {
     matches!(current, Current::SharedCk(Twin::First) | Current::Owner | Current::Modified)
 }
 
-fn read_plan(table: &[u64], node: u64, item: u64) -> Plan {
+pub fn read_plan(table: &[u64], node: u64, item: u64) -> Plan {
     let sound = checked(table)?;
     let (node, item) = addressed(&sound, node, item)?;
     let mut picture = sound.picture;
@@ -543,7 +543,7 @@ pub fn write(table: &mut [u64], node: u64, item: u64, new_value: u64, limit: u64
     carry_out(table, plan, limit)
 }
 
-fn write_plan(table: &[u64], node: u64, item: u64, new_value: u64) -> Plan {
+pub fn write_plan(table: &[u64], node: u64, item: u64, new_value: u64) -> Plan {
     let sound = checked(table)?;
     let (node, item) = addressed(&sound, node, item)?;
     let mut picture = sound.picture;
@@ -637,14 +637,18 @@ fn kept_goes_home(picture: &mut Picture, home: &Home, item: usize, twin: Twin, v
     picture.store_state(home.node, item, current, Some(twin));
 }
 
-/// `place`: 0 the current place, 1 the kept place; any other number is answered with 18.
 pub fn evict(table: &mut [u64], node: u64, item: u64, place: u64, limit: u64) -> Outcome {
-    let plan = match place {
+    let plan = evict_plan(table, node, item, place);
+    carry_out(table, plan, limit)
+}
+
+/// `place`: 0 the current place, 1 the kept place; any other number is answered with 18.
+pub fn evict_plan(table: &[u64], node: u64, item: u64, place: u64) -> Plan {
+    match place {
         0 => evict_current_plan(table, node, item),
         1 => evict_kept_plan(table, node, item),
         _ => Err(NO_SUCH_PLACE),
-    };
-    carry_out(table, plan, limit)
+    }
 }
 
 fn evict_current_plan(table: &[u64], node: u64, item: u64) -> Plan {
@@ -680,7 +684,7 @@ pub fn open(table: &mut [u64], limit: u64) -> Outcome {
     carry_out(table, plan, limit)
 }
 
-fn open_plan(table: &[u64]) -> Plan {
+pub fn open_plan(table: &[u64]) -> Plan {
     let sound = checked(table)?;
     if sound.mark.phase == Phase::Creating {
         return Err(CHECKPOINT_OPEN);
@@ -704,7 +708,7 @@ pub fn create(table: &mut [u64], limit: u64) -> Outcome {
     carry_out(table, plan, limit)
 }
 
-fn create_plan(table: &[u64]) -> Plan {
+pub fn create_plan(table: &[u64]) -> Plan {
     let sound = checked_open(table)?;
     let item = sound.kinds.iter().position(|kind| *kind == Kind::Dirty).ok_or(NOTHING_LEFT)?;
     let mut picture = sound.picture;
@@ -726,7 +730,7 @@ pub fn commit(table: &mut [u64], limit: u64) -> Outcome {
     carry_out(table, plan, limit)
 }
 
-fn commit_plan(table: &[u64]) -> Plan {
+pub fn commit_plan(table: &[u64]) -> Plan {
     let sound = checked_open(table)?;
     if sound.kinds.contains(&Kind::Dirty) {
         return Err(NOT_ALL_CREATED);
@@ -757,7 +761,7 @@ pub fn abandon(table: &mut [u64], limit: u64) -> Outcome {
     carry_out(table, plan, limit)
 }
 
-fn abandon_plan(table: &[u64]) -> Plan {
+pub fn abandon_plan(table: &[u64]) -> Plan {
     let sound = checked_open(table)?;
     let mut picture = sound.picture;
     for node in picture.live_list() {
@@ -790,7 +794,7 @@ pub fn recover(table: &mut [u64], lost: Option<u64>, scratch: &mut [u64], limit:
     carry_out(table, plan, limit)
 }
 
-fn recover_plan(table: &[u64], lost: Option<u64>, scratch_length: usize) -> Plan {
+pub fn recover_plan(table: &[u64], lost: Option<u64>, scratch_length: usize) -> Plan {
     let geometry = geometry_of(table)?;
     if lost.is_some_and(|node| node >= geometry.nodes as u64) {
         return Err(NO_SUCH_NODE);

@@ -1,24 +1,7 @@
 //! One call, made on the library and on the reference, each with a table of its own.
 
 use crate::calls::{on_reference, Call, Said};
-use crate::library;
-
-fn on_library(call: Call, table: &mut [u64], scratch: &mut [u64], limit: u64) -> Said {
-    match call {
-        Call::Words { nodes, items } => (0, library::words(nodes, items), 0),
-        Call::Check => (library::check(table), 0, 0),
-        Call::Stretch { node } => library::stretch(table, node),
-        Call::Format { nodes, items, frames } => library::format(table, nodes, items, frames, limit),
-        Call::Read { node, item } => library::read(table, node, item, limit),
-        Call::Write { node, item, value } => library::write(table, node, item, value, limit),
-        Call::Evict { node, item, place } => library::evict(table, node, item, place, limit),
-        Call::Open => library::open(table, limit),
-        Call::Create => library::create(table, limit),
-        Call::Commit => library::commit(table, limit),
-        Call::Abandon => library::abandon(table, limit),
-        Call::Recover { none, lost, .. } => library::recover(table, none, lost, scratch, limit),
-    }
-}
+use crate::on_library::on_library;
 
 /// Words before and after each lent slice, which no call may touch.
 const GUARD: usize = 4;
