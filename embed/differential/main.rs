@@ -12,6 +12,7 @@ mod library;
 mod on_library;
 mod random;
 mod reference;
+mod runs;
 mod tables;
 mod twins;
 
@@ -20,8 +21,7 @@ mod twins;
 mod stand_in;
 
 use calls::{Call, ANSWERS};
-use choices::WHOLE;
-use random::Random;
+use runs::{Runs, Subject};
 use tables::Geometry;
 use twins::{Compared, Twins};
 
@@ -40,28 +40,37 @@ struct Tally {
     met: [[u64; 19]; ANSWERS.len()],
 }
 
-/// The runs of one seed.
-struct Session<'a> {
+/// The runs of one seed, on the library and on the reference.
+struct Comparison<'a> {
     seed: u64,
     run: u64,
-    random: Random,
+    twins: Twins,
     tally: &'a mut Tally,
     left: u64,
 }
 
-impl Session<'_> {
-    /// One call on both; true if nothing differs.
-    fn call(&mut self, twins: &mut Twins, call: Call, limit: u64) -> bool {
-        let entry = twins.table().to_vec();
-        let compared = twins.call(call, limit);
+impl Subject for Comparison<'_> {
+    fn table(&self) -> &[u64] {
+        self.twins.table()
+    }
+
+    fn set(&mut self, words: &[u64]) {
+        self.twins.set(words);
+    }
+
+    fn call(&mut self, call: Call, limit: u64) -> bool {
+        let entry = self.table().to_vec();
+        let compared = self.twins.call(call, limit);
         self.note(call, limit, &entry, &compared);
         self.left = self.left.saturating_sub(1);
         if !compared.same {
-            self.report(call, limit, &entry, twins, &compared);
+            self.report(call, limit, &entry, &compared);
         }
         compared.same
     }
+}
 
+impl Comparison<'_> {
     fn note(&mut self, call: Call, limit: u64, entry: &[u64], compared: &Compared) {
         let (answer, _, stores) = compared.reference;
         self.tally.calls += 1;
@@ -75,7 +84,7 @@ impl Session<'_> {
         }
     }
 
-    fn report(&mut self, call: Call, limit: u64, entry: &[u64], twins: &Twins, compared: &Compared) {
+    fn report(&mut self, call: Call, limit: u64, entry: &[u64], compared: &Compared) {
         self.tally.differences += 1;
         if self.tally.differences > SHOWN {
             return;
@@ -83,7 +92,7 @@ impl Session<'_> {
         println!("difference in seed {}, run {}: {call:?}, limit {limit}", self.seed, self.run);
         println!("  library   (answer, value, stores): {:?}", compared.library);
         println!("  reference (answer, value, stores): {:?}", compared.reference);
-        for (place, ours, theirs) in twins.differing() {
+        for (place, ours, theirs) in self.twins.differing() {
             println!("  word {place}: library {ours:016x}, reference {theirs:016x}");
         }
         if entry.len() <= 100 {
@@ -91,162 +100,15 @@ impl Session<'_> {
             println!("  table before: {}", words.join(" "));
         }
     }
-
-    /// A formatted table, perhaps with words to spare.
-    fn formatted(&mut self) -> Option<Twins> {
-        let Geometry { nodes, items, frames } = tables::allowed_geometry(&mut self.random);
-        let words = Geometry { nodes, items, frames }.words() + self.random.one_of(&[0, 0, 1, 5]) as usize;
-        let before: Vec<u64> = (0..words).map(|_| self.random.word()).collect();
-        let mut twins = Twins::new(&before);
-        self.call(&mut twins, Call::Format { nodes, items, frames }, WHOLE).then_some(twins)
-    }
-
-    /// Whole calls, one after the other; true if nothing differs.
-    fn whole_calls(&mut self, twins: &mut Twins, count: u64) -> bool {
-        (0..count).all(|_| {
-            let call = choices::likely_call(&mut self.random, &twins.table().to_vec());
-            self.call(twins, call, WHOLE)
-        })
-    }
-
-    /// A table that a short run of whole calls leaves.
-    fn reached(&mut self) -> Option<Twins> {
-        let mut twins = self.formatted()?;
-        if self.random.percent(10) {
-            let mut table = twins.table().to_vec();
-            tables::age(&mut self.random, &mut table);
-            twins.set(&table);
-        }
-        let count = self.random.one_of(&[0, 3, 10, 30, 60]);
-        self.whole_calls(&mut twins, count).then_some(twins)
-    }
-
-    /// One long run of whole calls; now and then a node is lost.
-    fn long_run(&mut self) -> bool {
-        let Some(mut twins) = self.formatted() else { return false };
-        let steps = self.random.between(50, 400);
-        self.whole_calls(&mut twins, steps)
-    }
-
-    /// A call cut off, a node's words gone, recoveries cut off, a whole one, and the run goes on.
-    fn strikes(&mut self) -> bool {
-        let Some(mut twins) = self.reached() else { return false };
-        for _ in 0..self.random.between(1, 3) {
-            if !self.strike(&mut twins) || !self.whole_calls(&mut twins, 12) {
-                return false;
-            }
-        }
-        true
-    }
-
-    /// Opens a checkpoint and creates every item of it, as far as the table lets it.
-    fn prepare_commit(&mut self, twins: &mut Twins) -> bool {
-        let dirty_at_most = Geometry::of_table(twins.table()).items;
-        self.call(twins, Call::Open, WHOLE) && (0..dirty_at_most).all(|_| self.call(twins, Call::Create, WHOLE))
-    }
-
-    fn strike(&mut self, twins: &mut Twins) -> bool {
-        let mut cut = choices::likely_call(&mut self.random, &twins.table().to_vec());
-        if self.random.percent(40) && Geometry::of_table(twins.table()).items <= 12 {
-            if !self.prepare_commit(twins) {
-                return false;
-            }
-            cut = Call::Commit;
-        }
-        let limit = choices::any_limit(&mut self.random);
-        if !self.call(twins, cut, limit) {
-            return false;
-        }
-        let mut table = twins.table().to_vec();
-        let geometry = Geometry::of_table(&table);
-        let (nodes, items) = (geometry.nodes, geometry.items);
-        if table.len() < geometry.words() {
-            return true;
-        }
-        let lost = self.random.below(nodes);
-        let none = self.random.percent(30);
-        if !none {
-            tables::hit(&mut self.random, &mut table, lost);
-            twins.set(&table);
-        }
-        let recovery = Call::Recover { none: none as u64, lost, scratch: (nodes + items) as usize };
-        for _ in 0..self.random.below(4) {
-            let limit = choices::any_limit(&mut self.random);
-            if !self.call(twins, recovery, limit) {
-                return false;
-            }
-        }
-        self.call(twins, recovery, WHOLE)
-    }
-
-    /// Single calls on damaged copies of a table.
-    fn damaged_calls(&mut self) -> bool {
-        let Some(mut twins) = self.reached() else { return false };
-        let kept = twins.table().to_vec();
-        for _ in 0..16 {
-            let mut table = kept.clone();
-            tables::damage(&mut self.random, &mut table);
-            twins.set(&table);
-            for _ in 0..self.random.between(1, 3) {
-                let call = choices::any_call(&mut self.random, &twins.table().to_vec());
-                let limit = choices::any_limit(&mut self.random);
-                if !self.call(&mut twins, call, limit) {
-                    return false;
-                }
-            }
-        }
-        true
-    }
-
-    /// Recoveries, cut and whole, of tables whose entries are arbitrary.
-    fn scattered_recoveries(&mut self) -> bool {
-        let Some(mut twins) = self.formatted() else { return false };
-        let kept = twins.table().to_vec();
-        for _ in 0..12 {
-            let mut table = kept.clone();
-            tables::scatter(&mut self.random, &mut table);
-            twins.set(&table);
-            for _ in 0..self.random.between(1, 3) {
-                let call = choices::recovery(&mut self.random, &table);
-                let limit = choices::any_limit(&mut self.random);
-                if !self.call(&mut twins, call, limit) {
-                    return false;
-                }
-            }
-        }
-        true
-    }
-
-    /// Calls on words without any order.
-    fn noise(&mut self) -> bool {
-        let words = tables::noise(&mut self.random);
-        let mut twins = Twins::new(&words);
-        for _ in 0..8 {
-            let call = choices::any_call(&mut self.random, &twins.table().to_vec());
-            let limit = choices::any_limit(&mut self.random);
-            if !self.call(&mut twins, call, limit) {
-                return false;
-            }
-        }
-        true
-    }
-
-    fn next_run(&mut self) -> bool {
-        self.run += 1;
-        match self.random.below(10) {
-            0 => self.long_run(),
-            1..=3 => self.strikes(),
-            4..=6 => self.damaged_calls(),
-            7..=8 => self.scattered_recoveries(),
-            _ => self.noise(),
-        }
-    }
 }
 
 fn run_seed(seed: u64, calls: u64, tally: &mut Tally) {
-    let mut session = Session { seed, run: 0, random: Random::new(seed), tally, left: calls };
-    while session.left > 0 {
-        session.next_run();
+    let mut runs = Runs::new(seed);
+    let mut comparison = Comparison { seed, run: 0, twins: Twins::new(&[]), tally, left: calls };
+    runs.large(&mut comparison);
+    while comparison.left > 0 {
+        comparison.run += 1;
+        runs.next(&mut comparison);
     }
 }
 
