@@ -78,8 +78,8 @@
  *    be of one save and part of another. Format anew.
  * 4. If in doubt whether a machine is lost, name it. A recovery that names it from the start is safe,
  *    whether the machine was lost before, is lost meanwhile or not at all; it is dead afterwards. No
- *    other machine may be lost until that recovery has ended. If too few nodes would be left, the answer
- *    is 14 and nothing was stored.
+ *    other machine may be lost until that recovery has ended. If too few nodes would be left, the
+ *    answer is 14 and nothing was stored.
  *
  * embed/c/edge.c shows 2, 3 and 4.
  *
@@ -97,7 +97,8 @@
  * So the loss of any one node leaves every item a recovery copy.
  *
  * A node is live or dead. linkspan_format makes all nodes live; linkspan_recover makes the lost one
- * dead, and only linkspan_format brings it back. The words of a dead node are never read.
+ * dead, and only linkspan_format brings it back. The words of a dead node, its mark apart,
+ * are never read.
  *
  * A table is sound if the calls can work on it: all words in form, no live node over its F frames,
  * the live nodes agreed on the phase and number of the save, and each item either clean, dirty (written
@@ -273,7 +274,7 @@ uint64_t linkspan_recover(uint64_t *table, size_t len, uint64_t none, uint64_t l
  * Where they take a word, it may be any word: what they give is the bits that stand there.
  */
 
-/* Word 0: the geometry. */
+/* Word 0, the geometry. From the top bit down: 4 zero bits, N in 5, M in 9, F in 10, zeros. */
 #define LINKSPAN_GEOMETRY_AT ((uint64_t)0)
 
 static inline uint64_t linkspan_nodes_in(uint64_t geometry)
@@ -291,7 +292,10 @@ static inline uint64_t linkspan_frames_in(uint64_t geometry)
     return geometry >> 36 & 1023;
 }
 
-/* A node's mark. A dead node's is 0; a live node's has its live bit (1), a phase and a save's number. */
+/*
+ * A node's mark. From the top bit down: live in 1 bit, the phase in 2, the save's number in 32,
+ * zeros. A dead node's mark is 0.
+ */
 static inline uint64_t linkspan_mark_at(uint64_t node)
 {
     return 1 + node;
@@ -344,7 +348,10 @@ static inline uint64_t linkspan_entry_at(uint64_t nodes, uint64_t items, uint64_
     return linkspan_row_at(nodes, items, node) + LINKSPAN_ENTRY_WORDS * item;
 }
 
-/* What is in the current place and in the kept place of an entry with this state word. */
+/*
+ * What is in the two places of an entry with this state word. From the top bit down: the current place
+ * in 4 bits, the kept place in 2, zeros.
+ */
 static inline uint64_t linkspan_current_in(uint64_t state)
 {
     return state >> 60;
@@ -393,10 +400,10 @@ static inline uint64_t linkspan_owner_of(uint64_t nodes, uint64_t items, uint64_
  * words of all into one slice, has the list of the call's stores from the library, and sends each
  * store to the owner of its word. embed/c/owners.c does it.
  *
- * Gathering. The words of a lost or dead node, its mark too, may be handed in as zeros. A recovery
- * reads none of the words of the node that it names: they may be anything. Of every other dead node,
- * and in every later call of this one too, the mark is 0, handed in as 0 whatever that machine still
- * has, while its row may be anything. So the program remembers who is dead, until it formats anew.
+ * Gathering. The words of a lost node in the recovery that names it, and those of a dead node in every
+ * call, may be handed in as zeros, its mark too. The recovery reads none of them: they may be anything.
+ * In every other call a dead node's row may be anything, but its mark is 0, and is handed in as 0
+ * whatever that machine still has. So the program remembers who is dead, until it formats anew.
  *
  * The list. Make the call on a fresh copy of the gathered table at limit 0, at limit 1, at limit 2 and
  * so on, until *stores is less than the limit. The copies of limits L - 1 and L differ in one word at
@@ -406,10 +413,13 @@ static inline uint64_t linkspan_owner_of(uint64_t nodes, uint64_t items, uint64_
  *
  * Sending. In this order, the next store only when the last one stands at its owner. A store that
  * writes what is there already may be left out, since the table without it is the same table. Nobody
- * else gathers or makes a call until the last store stands. If the sending stops, the table is at a
- * limit of that call, as a cut call leaves it: the next call is a recovery (WHEN A MACHINE STOPS), by
- * any machine that is left. If it was a recovery's list that stopped, it is that recovery, with the
- * same name; and a second machine lost before it has ended is one too many, the sender's own included.
+ * else gathers or makes a call until the last store stands.
+ *
+ * If the sending stops, the table is at a limit of that call, as a cut call leaves it: the next call is
+ * a recovery (WHEN A MACHINE STOPS), by any machine that is left. If it was a recovery's list that
+ * stopped, it is that recovery, with the same name; a second machine lost before it has ended, be it
+ * the sender, is one too many. Before anybody gathers, see to it that no store still on its way can
+ * arrive later; and a machine that is named as lost but runs on must send nothing any more.
  *
  * A store to a lost node (in a recovery that names it: its mark, first of all) need not arrive, since
  * zeros are handed in for its words. Word 0 is stored by linkspan_format alone: send it to every
