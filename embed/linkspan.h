@@ -55,9 +55,33 @@
  * limit. Every call that stores, stores one word at a time in an order that is laid down. With a
  * limit it makes only the first `limit` of these stores and leaves the table as a machine does that
  * stops in mid-call; *stores is then the number made, while the answer, *value and the scratch are
- * those of the whole call. It is for tests and rehearsals. Otherwise pass LINKSPAN_WHOLE; no call
- * makes as many as 2^16 stores. After a call that was cut off, or a machine that stopped in mid-call,
- * the other calls may refuse the table (2): linkspan_recover puts it in order.
+ * those of the whole call. It is for tests and rehearsals, and for the list of a call's stores (A
+ * TABLE BY ITS OWNERS, below). Otherwise pass LINKSPAN_WHOLE; no call makes as many as 2^16 stores.
+ * After a call that was cut off, or a machine that stopped in mid-call, the next call is a recovery:
+ * WHEN A MACHINE STOPS.
+ *
+ *
+ * WHEN A MACHINE STOPS
+ *
+ * A call was broken off, or a machine was lost, or both: the next call is linkspan_recover, naming the
+ * lost node, or none if none was lost. (A formatting that was broken off is made again instead.) Every
+ * item is back when a recovery has ended, that is, was made whole and answered 0; and this is
+ * promised for one lost node, which every attempt at the recovery names. So:
+ *
+ * 1. Whoever begins a recovery ends it before anything else is done to the table, a check included.
+ *    If it is broken off, it is begun again with the same name, as often as that happens.
+ * 2. Sound does not mean restored. A recovery that was broken off may leave a table that passes
+ *    linkspan_check, some items brought back, others not. So the program itself remembers, outside of
+ *    the table, that a recovery is under way and whom it names.
+ * 3. Until a recovery that names none has ended, no machine may be lost. If one is, nothing is
+ *    promised of the values any more, whatever a recovery then answers, 0 included: part of them may
+ *    be of one save and part of another. Format anew.
+ * 4. If in doubt whether a machine is lost, name it. A recovery that names it from the start is safe,
+ *    whether the machine was lost before, is lost meanwhile or not at all; it is dead afterwards. No
+ *    other machine may be lost until that recovery has ended. If too few nodes would be left, the
+ *    answer is 14 and nothing was stored.
+ *
+ * embed/c/edge.c shows 2, 3 and 4.
  *
  *
  * WHAT A TABLE HOLDS
@@ -73,7 +97,8 @@
  * So the loss of any one node leaves every item a recovery copy.
  *
  * A node is live or dead. linkspan_format makes all nodes live; linkspan_recover makes the lost one
- * dead, and only linkspan_format brings it back. The words of a dead node are never read.
+ * dead, and only linkspan_format brings it back. The words of a dead node, its mark apart,
+ * are never read.
  *
  * A table is sound if the calls can work on it: all words in form, no live node over its F frames,
  * the live nodes agreed on the phase and number of the save, and each item either clean, dirty (written
@@ -200,7 +225,7 @@ uint64_t linkspan_create(uint64_t *table, size_t len,
 /*
  * linkspan_commit makes the present values the saved ones and closes the checkpoint. If it is cut
  * off, a recovery finishes it where a survivor's mark had been reached, and undoes it otherwise:
- * for all items alike.
+ * for all items alike, once the recovery has ended (WHEN A MACHINE STOPS).
  * 0; 1 empty; 3; 1 too short; 2; 8; 12.
  */
 uint64_t linkspan_commit(uint64_t *table, size_t len,
@@ -221,9 +246,11 @@ uint64_t linkspan_abandon(uint64_t *table, size_t len,
  * dead from now on, and none of its words is read, so they may hold anything. A node that is dead
  * already may be named. The survivors are the live nodes without the lost one.
  *
- * The table may be one that a call left when it was cut off. If the call was a commit that had
- * reached a survivor's mark, the commit is finished and its values are the saved ones. A recovery
- * that was itself cut off is simply made again.
+ * The table may be one that a call, other than a formatting, left when it was cut off. If the call was
+ * a commit that had reached a survivor's mark, the commit is finished and its values are the saved
+ * ones. A recovery that was itself cut off is made again, naming the same node or again none, before
+ * anything else is done to the table; and no other node may be lost until it has ended, none at all
+ * if it names none (WHEN A MACHINE STOPS).
  *
  * scratch is working space of at least M + N words. What it holds before does not matter; after a
  * recovery that was carried out its first M + N words are 0, the others as before.
@@ -233,6 +260,171 @@ uint64_t linkspan_abandon(uint64_t *table, size_t len,
 uint64_t linkspan_recover(uint64_t *table, size_t len, uint64_t none, uint64_t lost,
                           uint64_t *scratch, size_t scratch_len,
                           uint64_t limit, uint64_t *value, uint64_t *stores);
+
+
+/*
+ * LAYOUT
+ *
+ * Which word of a table is whose, and what its bits say. Word 0 has the geometry and belongs to no
+ * node. A node has its mark, and its row: an entry for each item, ascending.
+ *
+ * The functions are plain arithmetic and test nothing. Where they take nodes, items, a node, an item
+ * or a place, these are: nodes 3 to 16, items 1 to 256, node < nodes, item < items, place <
+ * linkspan_words(nodes, items). Then nothing overflows, and every place given is one of the table's.
+ * Where they take a word, it may be any word: what they give is the bits that stand there.
+ */
+
+/* Word 0, the geometry. From the top bit down: 4 zero bits, N in 5, M in 9, F in 10, zeros. */
+#define LINKSPAN_GEOMETRY_AT ((uint64_t)0)
+
+static inline uint64_t linkspan_nodes_in(uint64_t geometry)
+{
+    return geometry >> 55 & 31;
+}
+
+static inline uint64_t linkspan_items_in(uint64_t geometry)
+{
+    return geometry >> 46 & 511;
+}
+
+static inline uint64_t linkspan_frames_in(uint64_t geometry)
+{
+    return geometry >> 36 & 1023;
+}
+
+/*
+ * A node's mark. From the top bit down: live in 1 bit, the phase in 2, the save's number in 32,
+ * zeros. A dead node's mark is 0.
+ */
+static inline uint64_t linkspan_mark_at(uint64_t node)
+{
+    return 1 + node;
+}
+
+static inline uint64_t linkspan_mark_live(uint64_t mark)
+{
+    return mark >> 63;
+}
+
+static inline uint64_t linkspan_mark_phase(uint64_t mark)
+{
+    return mark >> 61 & 3;
+}
+
+static inline uint64_t linkspan_mark_number(uint64_t mark)
+{
+    return mark >> 29 & UINT32_MAX;
+}
+
+/* Phases. Committing is met in the table of a cut call only. */
+enum {
+    LINKSPAN_RUNNING = 0,
+    LINKSPAN_CREATING = 1,
+    LINKSPAN_COMMITTING = 2
+};
+
+/* The words of an entry, counted from its first. */
+enum {
+    LINKSPAN_STATE = 0,
+    LINKSPAN_CURRENT_VALUE = 1,
+    LINKSPAN_KEPT_VALUE = 2,
+    LINKSPAN_ENTRY_WORDS = 3 /* how many they are */
+};
+
+/* A node's row: so many words from this place on; linkspan_stretch gives the same of a table. */
+static inline uint64_t linkspan_row_words(uint64_t items)
+{
+    return LINKSPAN_ENTRY_WORDS * items;
+}
+
+static inline uint64_t linkspan_row_at(uint64_t nodes, uint64_t items, uint64_t node)
+{
+    return 1 + nodes + node * linkspan_row_words(items);
+}
+
+/* The first word of the node's entry for the item. */
+static inline uint64_t linkspan_entry_at(uint64_t nodes, uint64_t items, uint64_t node, uint64_t item)
+{
+    return linkspan_row_at(nodes, items, node) + LINKSPAN_ENTRY_WORDS * item;
+}
+
+/*
+ * What is in the two places of an entry with this state word. From the top bit down: the current place
+ * in 4 bits, the kept place in 2, zeros.
+ */
+static inline uint64_t linkspan_current_in(uint64_t state)
+{
+    return state >> 60;
+}
+
+static inline uint64_t linkspan_kept_in(uint64_t state)
+{
+    return state >> 58 & 3;
+}
+
+/* The codes of the current place. The value counts unless the place is invalid. */
+enum {
+    LINKSPAN_CURRENT_INVALID = 0,
+    LINKSPAN_CURRENT_SHARED = 1,
+    LINKSPAN_CURRENT_OWNER = 2,      /* others may be sharers */
+    LINKSPAN_CURRENT_MODIFIED = 3,   /* the owner, and no sharers */
+    LINKSPAN_CURRENT_SHARED_CK1 = 4, /* a recovery copy of an item not written since the save */
+    LINKSPAN_CURRENT_SHARED_CK2 = 5,
+    LINKSPAN_CURRENT_PRECOMMIT1 = 6, /* a recovery copy to be, in an open checkpoint */
+    LINKSPAN_CURRENT_PRECOMMIT2 = 7
+};
+
+/* The codes of the kept place. */
+enum {
+    LINKSPAN_KEPT_INVALID = 0,
+    LINKSPAN_KEPT_INV_CK1 = 1, /* a recovery copy of an item written since the save */
+    LINKSPAN_KEPT_INV_CK2 = 2
+};
+
+/* The node whose word this is; word 0 is everybody's. */
+#define LINKSPAN_EVERYBODY UINT64_MAX
+
+static inline uint64_t linkspan_owner_of(uint64_t nodes, uint64_t items, uint64_t place)
+{
+    if (place == LINKSPAN_GEOMETRY_AT)
+        return LINKSPAN_EVERYBODY;
+    if (place <= nodes)
+        return place - 1;
+    return (place - 1 - nodes) / linkspan_row_words(items);
+}
+
+/*
+ * A TABLE BY ITS OWNERS
+ *
+ * Each machine may keep its own words: word 0, its mark and its row. Whoever makes a call gathers the
+ * words of all into one slice, has the list of the call's stores from the library, and sends each
+ * store to the owner of its word. embed/c/owners.c does it.
+ *
+ * Gathering. The words of a lost node in the recovery that names it, and those of a dead node in every
+ * call, may be handed in as zeros, its mark too. The recovery reads none of them: they may be anything.
+ * In every other call a dead node's row may be anything, but its mark is 0, and is handed in as 0
+ * whatever that machine still has. So the program remembers who is dead, until it formats anew.
+ *
+ * The list. Make the call on a fresh copy of the gathered table at limit 0, at limit 1, at limit 2 and
+ * so on, until *stores is less than the limit. The copies of limits L - 1 and L differ in one word at
+ * most, and that word, as the copy of limit L has it, is the L-th store. If they do not differ, the
+ * L-th store writes what is there already. Answer and *value are the same at every limit; a refusal,
+ * or 17, has an empty list.
+ *
+ * Sending. In this order, the next store only when the last one stands at its owner. A store that
+ * writes what is there already may be left out, since the table without it is the same table. Nobody
+ * else gathers or makes a call until the last store stands.
+ *
+ * If the sending stops, the table is at a limit of that call, as a cut call leaves it: the next call is
+ * a recovery (WHEN A MACHINE STOPS), by any machine that is left. If it was a recovery's list that
+ * stopped, it is that recovery, with the same name; a second machine lost before it has ended, be it
+ * the sender, is one too many. Before anybody gathers, see to it that no store still on its way can
+ * arrive later; and a machine that is named as lost but runs on must send nothing any more.
+ *
+ * A store to a lost node (in a recovery that names it: its mark, first of all) need not arrive, since
+ * zeros are handed in for its words. Word 0 is stored by linkspan_format alone: send it to every
+ * machine, and if a formatting stops, format again.
+ */
 
 #ifdef __cplusplus
 }

@@ -184,6 +184,138 @@ pub fn words(nodes: u64, items: u64) -> Option<usize> {
     }
 }
 
+/// Which word of a table is whose, and what its bits say, for a program that keeps each machine's words
+/// on that machine: word 0, which has the geometry and is everybody's, a node's mark, and its row, which
+/// has an entry for each item, ascending. `linkspan.h` says under A TABLE BY ITS OWNERS how such a
+/// program makes a call.
+///
+/// The functions are plain arithmetic and test nothing. Where they take nodes, items, a node, an item or
+/// a place, these are: nodes 3 to 16, items 1 to 256, node < nodes, item < items, and a place of the
+/// table's. Where they take a word, it may be any word: what they give is the bits that stand there.
+pub mod layout {
+    use core::ops::Range;
+
+    /// The place of word 0, the geometry.
+    pub const GEOMETRY_AT: usize = 0;
+
+    /// The words of an entry: state, current value and kept value, at these places from its first.
+    pub const ENTRY_WORDS: usize = 3;
+    pub const STATE: usize = 0;
+    pub const CURRENT_VALUE: usize = 1;
+    pub const KEPT_VALUE: usize = 2;
+
+    /// The phase in a mark.
+    #[derive(Clone, Copy, PartialEq, Eq, Debug)]
+    #[repr(u64)]
+    pub enum Phase {
+        Running = 0,
+        Creating = 1,
+        /// Met in the table of a cut call only.
+        Committing = 2,
+    }
+
+    /// The codes of the current place.
+    #[derive(Clone, Copy, PartialEq, Eq, Debug)]
+    #[repr(u64)]
+    pub enum Current {
+        Invalid = 0,
+        Shared = 1,
+        /// Others may be sharers.
+        Owner = 2,
+        /// The owner, and no sharers.
+        Modified = 3,
+        /// A recovery copy of an item not written since the save.
+        SharedCk1 = 4,
+        SharedCk2 = 5,
+        /// A recovery copy to be, in an open checkpoint.
+        Precommit1 = 6,
+        Precommit2 = 7,
+    }
+
+    /// The codes of the kept place.
+    #[derive(Clone, Copy, PartialEq, Eq, Debug)]
+    #[repr(u64)]
+    pub enum Kept {
+        Invalid = 0,
+        /// A recovery copy of an item written since the save.
+        InvCk1 = 1,
+        InvCk2 = 2,
+    }
+
+    /// The number of nodes in word 0.
+    pub const fn nodes_in(geometry: u64) -> u64 {
+        geometry >> 55 & 31
+    }
+
+    /// The number of items in word 0.
+    pub const fn items_in(geometry: u64) -> u64 {
+        geometry >> 46 & 511
+    }
+
+    /// The frames of each node in word 0.
+    pub const fn frames_in(geometry: u64) -> u64 {
+        geometry >> 36 & 1023
+    }
+
+    /// The place of a node's mark. A dead node's mark is 0.
+    pub const fn mark_at(node: u64) -> usize {
+        1 + node as usize
+    }
+
+    /// The live bit of a mark.
+    pub const fn mark_live(mark: u64) -> bool {
+        mark >> 63 == 1
+    }
+
+    /// The phase of a mark, as the code of a [`Phase`].
+    pub const fn mark_phase(mark: u64) -> u64 {
+        mark >> 61 & 3
+    }
+
+    /// The number of the save in a mark.
+    pub const fn mark_number(mark: u64) -> u64 {
+        mark >> 29 & u32::MAX as u64
+    }
+
+    /// How many words a node's row has.
+    pub const fn row_words(items: u64) -> usize {
+        ENTRY_WORDS * items as usize
+    }
+
+    /// The places of a node's row.
+    pub const fn row(nodes: u64, items: u64, node: u64) -> Range<usize> {
+        let start = 1 + nodes as usize + node as usize * row_words(items);
+        start..start + row_words(items)
+    }
+
+    /// The first place of the node's entry for the item.
+    pub const fn entry_at(nodes: u64, items: u64, node: u64, item: u64) -> usize {
+        row(nodes, items, node).start + ENTRY_WORDS * item as usize
+    }
+
+    /// What is in the current place of an entry with this state word, as the code of a [`Current`].
+    pub const fn current_in(state: u64) -> u64 {
+        state >> 60
+    }
+
+    /// What is in the kept place of an entry with this state word, as the code of a [`Kept`].
+    pub const fn kept_in(state: u64) -> u64 {
+        state >> 58 & 3
+    }
+
+    /// The node whose word this is; none if it is word 0, which is everybody's.
+    pub const fn owner_of(nodes: u64, items: u64, place: usize) -> Option<u64> {
+        if place == GEOMETRY_AT {
+            return None;
+        }
+        let place = place - 1;
+        if place < nodes as usize {
+            return Some(place as u64);
+        }
+        Some(((place - nodes as usize) / row_words(items)) as u64)
+    }
+}
+
 /// A table in words that the caller lends. The words may hold anything: every call checks them.
 pub struct Table<'a> {
     words: &'a mut [u64],
@@ -292,6 +424,10 @@ impl<'a> Table<'a> {
 
     /// Brings every item back to its saved value, without the lost node if there is one. The scratch
     /// needs items + nodes words.
+    ///
+    /// Whoever begins a recovery ends it, with the same name, before anything else is done to the table,
+    /// a check included; and until one of `None` has ended, no machine may be lost. `linkspan.h` says
+    /// why, under WHEN A MACHINE STOPS.
     pub fn recover(&mut self, lost: Option<u64>, scratch: &mut [u64]) -> Answer {
         let (table, len, limit) = self.lent();
         let none = lost.is_none() as u64;
