@@ -60,6 +60,14 @@
  * After a call that was cut off, or a machine that stopped in mid-call, the next call is a recovery:
  * WHEN A MACHINE STOPS.
  *
+ * Order. What a table holds at every limit is proved. A machine that dies stops between two
+ * instructions: that the compiled code makes the same stores there, each once, alone, 8 bytes and in
+ * order, is tested on x86-64 (embed/order, embed/kills) and not proved. It rests on the limit being a
+ * number that only the caller knows: no call has a fixed limit, and none will. The archive has machine
+ * code and no bitcode, so that your link-time optimization cannot reorder it. On other hardware you
+ * must see to it that a word is stored whole and that the stores of one machine become visible in
+ * their order (docs/RESTORE.md, The hardware).
+ *
  *
  * WHEN A MACHINE STOPS
  *
@@ -76,10 +84,11 @@
  * 3. Until a recovery that names none has ended, no machine may be lost. If one is, nothing is
  *    promised of the values any more, whatever a recovery then answers, 0 included: part of them may
  *    be of one save and part of another. Format anew.
- * 4. If in doubt whether a machine is lost, name it. A recovery that names it from the start is safe,
- *    whether the machine was lost before, is lost meanwhile or not at all; it is dead afterwards. No
- *    other machine may be lost until that recovery has ended. If too few nodes would be left, the
- *    answer is 14 and nothing was stored.
+ * 4. If in doubt whether a machine is lost, name it. A recovery that names it from the start is safe
+ *    whether the machine was lost before or not at all; if it is lost while the recovery goes on, begin
+ *    that again, with the same name, for the machine's mark may hold anything then. It is dead
+ *    afterwards. No other machine may be lost until that recovery has ended. If too few nodes would be
+ *    left, the answer is 14 and nothing was stored.
  *
  * embed/c/edge.c shows 2, 3 and 4.
  *

@@ -4,7 +4,7 @@
  * A machine lost while a recovery that names none is under way. The new save may then come back in
  * part, beside a part of the old one, and the answer is 0. So: end a recovery that names none before
  * anything else can happen; if a machine is lost before its end, format anew. If in doubt whether a
- * machine is lost, name it from the start: then it may be lost at any moment.
+ * machine is lost, name it from the start: if it is lost meanwhile, that recovery is begun again.
  *
  * A recovery that was broken off may leave a table that passes the check. Some items are back, others
  * are not: sound does not mean restored. So: remember outside of the table that a recovery is under
