@@ -4,7 +4,8 @@ use homes::places::Place;
 use survivors::lost::Lost;
 use table::answers::Answer;
 
-// A limit that no list of stores reaches.
+// A limit that no list of stores reaches. It is a constant, for tables that nobody sees between two instructions: those
+// in a program's own memory. On memory that outlives the program the limit is a number known at run time only.
 pub const WHOLE: u64 = 0xffff_ffff_ffff_ffff;
 
 pub enum Call {
