@@ -1,0 +1,158 @@
+//! A run: a formatted table, and rounds of a killed child and a strike on it.
+
+use crate::calls::Call;
+use crate::children::{Aim, Children, Kill, MOST_CALLS};
+use crate::choices::WHOLE;
+use crate::lent::Lent;
+use crate::library;
+use crate::limits;
+use crate::memory::Memory;
+use crate::random::Random;
+use crate::script::{Script, Wish};
+use crate::tables::{self, Geometry};
+use crate::tally::Tally;
+use std::time::Duration;
+
+/// Where the runs take place.
+pub struct Place {
+    pub lent: Lent,
+    pub children: Children,
+}
+
+impl Place {
+    pub fn new() -> Place {
+        Place { lent: Lent::shared(), children: Children::new() }
+    }
+}
+
+pub struct Run<'a> {
+    pub random: Random,
+    /// What the shared table holds.
+    pub table: Vec<u64>,
+    pub memory: Memory,
+    pub place: &'a mut Place,
+    pub tally: &'a mut Tally,
+}
+
+/// The call in which a child was killed.
+#[derive(Clone, Copy)]
+pub struct Cut {
+    pub call: Call,
+    /// The stores that it had made, as far as they can be seen.
+    pub limit: usize,
+}
+
+/// What a killed child left.
+pub struct Found {
+    /// The table after the finished calls.
+    pub before: Vec<u64>,
+    pub cut: Option<Cut>,
+}
+
+/// The share of kills at a moment, in percent.
+const MOMENTS: u64 = 45;
+
+/// Tables of at most so many words are stepped through from a call's beginning, or from its first store.
+const SMALL: usize = 120;
+const MIDDLING: usize = 400;
+
+fn geometry(random: &mut Random) -> Geometry {
+    if random.percent(96) {
+        return tables::allowed_geometry(random);
+    }
+    let (nodes, items) = (random.between(6, 16), random.between(40, 256));
+    let fewest = tables::fewest_frames(nodes, items);
+    Geometry { nodes, items, frames: random.between(fewest, 512) }
+}
+
+impl Run<'_> {
+    /// A table that the library formats in shared memory, perhaps with words to spare.
+    pub fn begin<'a>(mut random: Random, place: &'a mut Place, tally: &'a mut Tally) -> Result<Run<'a>, String> {
+        let Geometry { nodes, items, frames } = geometry(&mut random);
+        let words = Geometry { nodes, items, frames }.words() + random.one_of(&[0, 0, 1, 5]) as usize;
+        let before: Vec<u64> = (0..words).map(|_| random.word()).collect();
+        let script = Script::of_one(&before, Call::Format { nodes, items, frames });
+        let table = limits::table_at(&before, &script.last().list, script.last().list.len());
+        place.lent.place(random.index(8), &before);
+        let said = library::format(place.lent.slice_mut(), nodes, items, frames, WHOLE);
+        if said != script.last().said || place.lent.slice() != table || !place.lent.guards_stand() {
+            return Err(format!("formatting {nodes} nodes, {items} items, {frames} frames said {said:?}"));
+        }
+        Ok(Run { random, table, memory: Memory::formatted(items), place, tally })
+    }
+
+    /// A child killed, and a strike; false if the run cannot go on.
+    pub fn round(&mut self, wish: Wish) -> Result<bool, String> {
+        let script = self.script(wish);
+        let kill = self.any_kill(&script);
+        let found = self.kill(&script, kill)?;
+        self.strike(found)
+    }
+
+    fn script(&mut self, wish: Wish) -> Script {
+        let most = if self.table.len() > MIDDLING { 5 } else { 24 };
+        let count = self.random.below(most + 1);
+        let mut script = Script::new(&self.table);
+        script.push_random(&mut self.random, count);
+        script.push_wish(&mut self.random, wish);
+        assert!(script.steps.len() <= MOST_CALLS);
+        script
+    }
+
+    pub fn any_kill(&mut self, script: &Script) -> Kill {
+        if self.random.percent(MOMENTS) {
+            return Kill::Moment(self.any_moment(script));
+        }
+        Kill::Instruction(self.any_aim(script))
+    }
+
+    /// A moment in the time that the calls take.
+    fn any_moment(&mut self, script: &Script) -> Duration {
+        let time = self.place.children.time(script, &self.table).as_nanos() as u64;
+        Duration::from_nanos(self.random.below(time + time / 2 + 1))
+    }
+
+    fn any_aim(&mut self, script: &Script) -> Aim {
+        let stores = script.last().list.len() as u64;
+        let draw = self.random.word();
+        if self.table.len() <= SMALL && self.random.percent(4) {
+            return Aim::Anywhere { draw };
+        }
+        if self.table.len() <= MIDDLING && self.random.percent(70) {
+            return Aim::Storing { draw, most: 150 };
+        }
+        let count = self.place.lent.page_count();
+        let (first, pages) = if self.random.percent(50) { (0, count) } else { (self.random.index(count), 1) };
+        let stores = self.random.below(stores.min(50) + 1);
+        Aim::Late { first, pages, stores, instructions: self.random.below(20) }
+    }
+
+    /// Kills a child in the script and finds the table at a limit of the call that was cut.
+    pub fn kill(&mut self, script: &Script, kill: Kill) -> Result<Found, String> {
+        let told = self.place.children.killed(script, kill, &mut self.place.lent)?;
+        let mut before = self.table.clone();
+        for (step, said) in script.steps.iter().zip(&told.finished) {
+            if *said != step.said {
+                return Err(format!("{:?} said {said:?}, by the reference {:?}", step.call, step.said));
+            }
+            if !self.memory.feed(step.call, *said) {
+                return Err(format!("{:?} said {said:?}, not the item's value", step.call));
+            }
+            limits::make(&mut before, &step.list);
+        }
+        self.table = self.place.lent.slice().to_vec();
+        if !self.place.lent.guards_stand() {
+            return Err(format!("words around the table have changed; {kill:?}"));
+        }
+        let cut = script.steps.get(told.finished.len()).filter(|_| told.one_cut);
+        let list = cut.map_or(&[][..], |step| &step.list);
+        let Some(limit) = limits::smallest(&before, list, &self.table) else {
+            let call = cut.map(|step| step.call);
+            let farness = limits::farness(&before, list, &self.table);
+            return Err(format!("no limit of {call:?} was found; {kill:?}; {farness}"));
+        };
+        let inside = limits::is_inside(&before, list, &self.table, limit);
+        self.tally.note_kill(cut.map(|step| step.call), matches!(kill, Kill::Moment(_)), inside);
+        Ok(Found { before, cut: cut.map(|step| Cut { call: step.call, limit }) })
+    }
+}
