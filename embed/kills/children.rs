@@ -7,7 +7,8 @@ use crate::on_library::on_library;
 use crate::processes::{self, Child, End, From, Pages};
 use crate::random::Random;
 use crate::script::{Script, Step};
-use std::sync::atomic::{AtomicU64, Ordering::SeqCst};
+use std::sync::atomic::AtomicU64;
+use std::sync::atomic::Ordering::{Relaxed, SeqCst};
 use std::time::{Duration, Instant};
 
 /// The most calls of a script.
@@ -26,7 +27,9 @@ struct Board {
 #[derive(Clone, Copy, Debug)]
 pub enum Kill {
     /// By its parent, so long after its first call began.
-    Moment(Duration),
+    Parent { after: Duration },
+    /// By a timer, so long after it was set; the child waits so long before its first call.
+    Timer { after: Duration, wait: Duration },
     /// By itself, at an instruction of its last call.
     Instruction(Aim),
 }
@@ -55,10 +58,14 @@ impl Aim {
 
 /// Which calls a killed child had made.
 pub struct Told {
-    /// What each finished call said.
-    pub finished: Vec<Said>,
-    /// One more had begun.
+    /// The script was made so often.
+    pub laps: u64,
+    /// Then so many of its calls were finished,
+    pub finished: usize,
+    /// and one more had begun.
     pub one_cut: bool,
+    /// What the calls said, each the last time it was finished.
+    pub said: Vec<Said>,
 }
 
 /// Room for what a recovery lends.
@@ -73,6 +80,9 @@ pub struct Children {
 /// Longer than any child takes to begin.
 const PATIENCE: Duration = Duration::from_secs(20);
 
+/// The parent looks so long without giving its processor away.
+const SPINNING: Duration = Duration::from_micros(200);
+
 impl Children {
     pub fn new() -> Children {
         let pages = Pages::shared(std::mem::size_of::<Board>().div_ceil(4096));
@@ -85,32 +95,41 @@ impl Children {
 
     /// Lets a child make the calls and kills it; an error where it ended otherwise.
     pub fn killed(&mut self, script: &Script, kill: Kill, table: &mut Lent) -> Result<Told, String> {
-        self.board().begun.store(0, SeqCst);
-        self.board().ended.store(0, SeqCst);
+        self.clear();
         let Some(child) = Child::fork() else { self.be_child(script, kill, table) };
-        if let Kill::Moment(after) = kill {
+        if let Kill::Parent { after } = kill {
             self.await_begun();
             spin(after);
             child.kill();
         }
         match child.end() {
-            End::Killed => Ok(self.told()),
+            End::Killed => Ok(self.told(script.steps.len())),
             End::Otherwise(signal) => Err(format!("the child ended otherwise than killed: signal {signal}")),
         }
     }
 
-    fn told(&self) -> Told {
+    fn clear(&self) {
+        self.board().begun.store(0, SeqCst);
+        self.board().ended.store(0, SeqCst);
+    }
+
+    fn told(&self, calls: usize) -> Told {
         let board = self.board();
-        let (begun, ended) = (board.begun.load(SeqCst), board.ended.load(SeqCst));
-        let said = |call: &[AtomicU64; 3]| (call[0].load(SeqCst), call[1].load(SeqCst), call[2].load(SeqCst));
-        Told { finished: board.said[..ended as usize].iter().map(said).collect(), one_cut: begun > ended }
+        let (begun, ended) = (board.begun.load(SeqCst) as usize, board.ended.load(SeqCst) as usize);
+        let said = |call: &[AtomicU64; 3]| (call[0].load(Relaxed), call[1].load(Relaxed), call[2].load(Relaxed));
+        Told {
+            laps: (ended / calls) as u64,
+            finished: ended % calls,
+            one_cut: begun > ended,
+            said: board.said[..ended.min(calls)].iter().map(said).collect(),
+        }
     }
 
     /// Until the child's first call, or until patience ends.
     fn await_begun(&self) {
         let start = Instant::now();
         while self.board().begun.load(SeqCst) == 0 && start.elapsed() < PATIENCE {
-            match start.elapsed() < Duration::from_micros(200) {
+            match start.elapsed() < SPINNING {
                 true => std::hint::spin_loop(),
                 false => std::thread::yield_now(),
             }
@@ -118,22 +137,49 @@ impl Children {
     }
 
     fn be_child(&mut self, script: &Script, kill: Kill, table: &mut Lent) -> ! {
-        let last = script.steps.len() - 1;
-        for (index, step) in script.steps.iter().enumerate() {
-            match kill {
-                Kill::Instruction(aim) if index == last => self.make_aimed(index, step, aim, table),
-                _ => self.make(index, step, table),
-            }
+        if let Kill::Timer { after, wait } = kill {
+            self.rehearse(script.last(), table);
+            processes::kill_later(after);
+            spin(wait);
+        }
+        match (kill, script.again) {
+            (Kill::Instruction(aim), _) => self.make_all_aimed(script, aim, table),
+            (_, true) => loop {
+                self.make_all(script, table)
+            },
+            (_, false) => self.make_all(script, table),
         }
         match kill {
-            Kill::Moment(_) => processes::await_kill(),
             Kill::Instruction(_) => processes::kill_self(),
+            _ => processes::await_kill(),
         }
+    }
+
+    /// Touches every page and makes a call on a copy, so that later ones do not wait for their pages.
+    fn rehearse(&mut self, step: &Step, table: &mut Lent) {
+        let mut copy = table.private_copy();
+        self.call(step, &mut copy);
+        table.touch();
+        self.board().ended.fetch_or(0, SeqCst);
+    }
+
+    fn make_all(&mut self, script: &Script, table: &mut Lent) {
+        for (index, step) in script.steps.iter().enumerate() {
+            self.make(index, step, table);
+        }
+    }
+
+    fn make_all_aimed(&mut self, script: &Script, aim: Aim, table: &mut Lent) {
+        let last = script.steps.len() - 1;
+        for (index, step) in script.steps[..last].iter().enumerate() {
+            self.make(index, step, table);
+        }
+        self.make_aimed(last, script.last(), aim, table);
     }
 
     /// One call, its beginning and its end told.
     fn make(&mut self, index: usize, step: &Step, table: &mut Lent) {
-        self.board().begun.store(index as u64 + 1, SeqCst);
+        self.board().begun.fetch_add(1, SeqCst);
         let said = self.call(step, table);
         self.tell_end(index, said);
     }
@@ -141,9 +187,9 @@ impl Children {
     fn tell_end(&self, index: usize, said: Said) {
         let place = &self.board().said[index];
         for (word, told) in place.iter().zip([said.0, said.1, said.2]) {
-            word.store(told, SeqCst);
+            word.store(told, Relaxed);
         }
-        self.board().ended.store(index as u64 + 1, SeqCst);
+        self.board().ended.fetch_add(1, SeqCst);
     }
 
     fn call(&mut self, step: &Step, table: &mut Lent) -> Said {
@@ -158,7 +204,7 @@ impl Children {
             Aim::Storing { draw, most } => drawn(draw, self.length(step, aim, most, table) + 1),
             Aim::Late { instructions, .. } => instructions,
         };
-        self.board().begun.store(index as u64 + 1, SeqCst);
+        self.board().begun.fetch_add(1, SeqCst);
         let said = processes::killed_after(aim.start(table), last, || self.call(step, table));
         self.tell_end(index, said);
     }
@@ -169,17 +215,6 @@ impl Children {
         processes::counted(aim.start(&copy), most, || {
             self.call(step, &mut copy);
         })
-    }
-
-    /// The time that the script takes on a copy of the table.
-    pub fn time(&mut self, script: &Script, table: &[u64]) -> Duration {
-        let mut copy = table.to_vec();
-        let start = Instant::now();
-        for step in &script.steps {
-            let scratch = &mut self.scratch[..step.call.scratch_length()];
-            on_library(step.call, &mut copy, scratch, WHOLE);
-        }
-        start.elapsed()
     }
 }
 

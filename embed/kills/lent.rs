@@ -62,6 +62,14 @@ impl Lent {
         before.iter().chain(after).all(|word| *word == GUARD_WORD)
     }
 
+    /// Writes to each page without changing it, so that no later store waits for its page.
+    pub fn touch(&mut self) {
+        for page in self.all_mut().chunks_mut(PAGE_WORDS) {
+            let word = &mut page[0] as *mut u64;
+            unsafe { word.write_volatile(word.read_volatile()) };
+        }
+    }
+
     /// The number of pages that the slice lies in.
     pub fn page_count(&self) -> usize {
         (self.lead + self.length).div_ceil(PAGE_WORDS)

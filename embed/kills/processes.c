@@ -1,6 +1,6 @@
 /*
- * What the kill test needs and Rust's standard library lacks: memory shared with a child, fork, SIGKILL, and a
- * child that steps through its own instructions and kills itself at one of them.
+ * What the kill test needs and Rust's standard library lacks: memory shared with a child, fork, SIGKILL, also by a
+ * timer, and a child that steps through its own instructions and kills itself at one of them.
  *
  * To step, the child sets the trap flag: the processor then raises SIGTRAP after each instruction. To begin at a
  * store, the pages of the table are closed for writing: the store raises SIGSEGV before it happens.
@@ -18,6 +18,7 @@
 #include <sys/mman.h>
 #include <sys/prctl.h>
 #include <sys/wait.h>
+#include <time.h>
 #include <ucontext.h>
 #include <unistd.h>
 #include <x86intrin.h>
@@ -54,6 +55,18 @@ void *processes_memory(size_t bytes, int shared) {
 void processes_kill_self(void) {
     for (;;)
         kill(step.self, SIGKILL);
+}
+
+/* A timer kills this process so many nanoseconds from now; 0 if it is set. */
+int processes_kill_later(uint64_t nanoseconds) {
+    struct sigevent event = {.sigev_notify = SIGEV_SIGNAL, .sigev_signo = SIGKILL};
+    struct itimerspec time = {0};
+    timer_t timer;
+    time.it_value.tv_sec = nanoseconds / 1000000000;
+    time.it_value.tv_nsec = nanoseconds % 1000000000 + 1; /* all zero would not set it */
+    if (timer_create(CLOCK_MONOTONIC, &event, &timer) != 0)
+        return -1;
+    return timer_settime(timer, 0, &time, NULL);
 }
 
 void processes_await_kill(void) {

@@ -1,6 +1,7 @@
 //! Child processes and memory shared with them: processes.c, called from Rust.
 
 use std::ffi::c_void;
+use std::time::Duration;
 
 extern "C" {
     fn processes_memory(bytes: usize, shared: i32) -> *mut c_void;
@@ -8,6 +9,7 @@ extern "C" {
     fn processes_kill(child: i32);
     fn processes_end(child: i32) -> i32;
     fn processes_kill_self() -> !;
+    fn processes_kill_later(nanoseconds: u64) -> i32;
     fn processes_await_kill() -> !;
     fn processes_count_after(pages: *mut c_void, bytes: usize, passes: u64, last: u64, deadly: i32);
     fn processes_count_from_here(last: u64, deadly: i32);
@@ -91,6 +93,12 @@ impl Child {
 
 pub fn kill_self() -> ! {
     unsafe { processes_kill_self() }
+}
+
+/// This process is killed when the time is over.
+pub fn kill_later(time: Duration) {
+    let answer = unsafe { processes_kill_later(time.as_nanos() as u64) };
+    assert!(answer == 0, "no timer");
 }
 
 pub fn await_kill() -> ! {

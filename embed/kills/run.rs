@@ -1,14 +1,14 @@
 //! A run: a formatted table, and rounds of a killed child and a strike on it.
 
-use crate::calls::Call;
-use crate::children::{Aim, Children, Kill, MOST_CALLS};
+use crate::calls::{Call, Said};
+use crate::children::{Aim, Children, Kill, Told};
 use crate::choices::WHOLE;
 use crate::lent::Lent;
 use crate::library;
 use crate::limits;
 use crate::memory::Memory;
 use crate::random::Random;
-use crate::script::{Script, Wish};
+use crate::script::{Script, Step, Wish, FIRST_WISH, LAST_WISH};
 use crate::tables::{self, Geometry};
 use crate::tally::Tally;
 use std::time::Duration;
@@ -83,33 +83,51 @@ impl Run<'_> {
 
     /// A child killed, and a strike; false if the run cannot go on.
     pub fn round(&mut self, wish: Wish) -> Result<bool, String> {
-        let script = self.script(wish);
-        let kill = self.any_kill(&script);
-        let found = self.kill(&script, kill)?;
-        self.strike(found)
+        let found = match self.random.percent(MOMENTS) {
+            true => self.kill_at_moment(),
+            false => self.kill_at_instruction(wish),
+        };
+        self.strike(found?)
     }
 
-    fn script(&mut self, wish: Wish) -> Script {
-        let most = if self.table.len() > MIDDLING { 5 } else { 24 };
-        let count = self.random.below(most + 1);
+    /// The child makes a script again and again.
+    fn kill_at_moment(&mut self) -> Result<Found, String> {
+        let mut script = Script::formatting(&self.table);
+        for _ in 0..if self.table.len() > MIDDLING { 6 } else { 16 } {
+            script.push_random(&mut self.random, 2);
+            let wish = self.random.between(FIRST_WISH as u64, LAST_WISH as u64) as usize;
+            script.push_wish(&mut self.random, wish);
+        }
+        let after = self.microseconds(10, 300);
+        let kill = match self.random.percent(50) {
+            true => Kill::Parent { after },
+            false => Kill::Timer { after, wait: Duration::ZERO },
+        };
+        self.kill(&script, kill)
+    }
+
+    /// The child makes some calls and is killed in the wished one.
+    fn kill_at_instruction(&mut self, wish: Wish) -> Result<Found, String> {
+        let count = self.random.below(if self.table.len() > MIDDLING { 5 } else { 16 });
         let mut script = Script::new(&self.table);
         script.push_random(&mut self.random, count);
         script.push_wish(&mut self.random, wish);
-        assert!(script.steps.len() <= MOST_CALLS);
-        script
+        let aim = self.any_aim(&script);
+        self.kill(&script, Kill::Instruction(aim))
     }
 
-    pub fn any_kill(&mut self, script: &Script) -> Kill {
-        if self.random.percent(MOMENTS) {
-            return Kill::Moment(self.any_moment(script));
-        }
-        Kill::Instruction(self.any_aim(script))
+    /// Kills a child that makes this one call.
+    pub fn kill_in(&mut self, call: Call) -> Result<(), String> {
+        let script = Script::of_one(&self.table, call);
+        let kill = match self.random.percent(MOMENTS) {
+            true => Kill::Timer { after: Duration::from_micros(15), wait: self.microseconds(8, 17) },
+            false => Kill::Instruction(self.any_aim(&script)),
+        };
+        self.kill(&script, kill).map(|_| ())
     }
 
-    /// A moment in the time that the calls take.
-    fn any_moment(&mut self, script: &Script) -> Duration {
-        let time = self.place.children.time(script, &self.table).as_nanos() as u64;
-        Duration::from_nanos(self.random.below(time + time / 2 + 1))
+    fn microseconds(&mut self, least: u64, most: u64) -> Duration {
+        Duration::from_nanos(self.random.between(1000 * least, 1000 * most))
     }
 
     fn any_aim(&mut self, script: &Script) -> Aim {
@@ -118,33 +136,32 @@ impl Run<'_> {
         if self.table.len() <= SMALL && self.random.percent(4) {
             return Aim::Anywhere { draw };
         }
-        if self.table.len() <= MIDDLING && self.random.percent(70) {
+        if self.table.len() <= MIDDLING && self.random.percent(50) {
             return Aim::Storing { draw, most: 150 };
         }
         let count = self.place.lent.page_count();
         let (first, pages) = if self.random.percent(50) { (0, count) } else { (self.random.index(count), 1) };
         let stores = self.random.below(stores.min(50) + 1);
-        Aim::Late { first, pages, stores, instructions: self.random.below(20) }
+        Aim::Late { first, pages, stores, instructions: self.random.below(12) }
     }
 
     /// Kills a child in the script and finds the table at a limit of the call that was cut.
     pub fn kill(&mut self, script: &Script, kill: Kill) -> Result<Found, String> {
         let told = self.place.children.killed(script, kill, &mut self.place.lent)?;
+        self.compare_said(script, &told)?;
         let mut before = self.table.clone();
-        for (step, said) in script.steps.iter().zip(&told.finished) {
-            if *said != step.said {
-                return Err(format!("{:?} said {said:?}, by the reference {:?}", step.call, step.said));
-            }
-            if !self.memory.feed(step.call, *said) {
-                return Err(format!("{:?} said {said:?}, not the item's value", step.call));
-            }
-            limits::make(&mut before, &step.list);
+        if told.laps > 0 {
+            self.feed(&script.steps, &told.said)?;
+            before.clone_from(&script.table);
         }
+        let finished = &script.steps[..told.finished];
+        self.feed(finished, &told.said)?;
+        finished.iter().for_each(|step| limits::make(&mut before, &step.list));
         self.table = self.place.lent.slice().to_vec();
         if !self.place.lent.guards_stand() {
             return Err(format!("words around the table have changed; {kill:?}"));
         }
-        let cut = script.steps.get(told.finished.len()).filter(|_| told.one_cut);
+        let cut = script.steps.get(told.finished).filter(|_| told.one_cut);
         let list = cut.map_or(&[][..], |step| &step.list);
         let Some(limit) = limits::smallest(&before, list, &self.table) else {
             let call = cut.map(|step| step.call);
@@ -152,7 +169,21 @@ impl Run<'_> {
             return Err(format!("no limit of {call:?} was found; {kill:?}; {farness}"));
         };
         let inside = limits::is_inside(&before, list, &self.table, limit);
-        self.tally.note_kill(cut.map(|step| step.call), matches!(kill, Kill::Moment(_)), inside);
+        self.tally.note_kill(cut.map(|step| step.call), !matches!(kill, Kill::Instruction(_)), inside);
         Ok(Found { before, cut: cut.map(|step| Cut { call: step.call, limit }) })
+    }
+    fn compare_said(&self, script: &Script, told: &Told) -> Result<(), String> {
+        match script.steps.iter().zip(&told.said).find(|(step, said)| step.said != **said) {
+            None => Ok(()),
+            Some((step, said)) => Err(format!("{:?} said {said:?}, by the reference {:?}", step.call, step.said)),
+        }
+    }
+
+    /// Feeds the plain memory with finished calls and what they said.
+    fn feed(&mut self, steps: &[Step], said: &[Said]) -> Result<(), String> {
+        match steps.iter().zip(said).find(|(step, said)| !self.memory.feed(step.call, **said)) {
+            None => Ok(()),
+            Some((step, said)) => Err(format!("{:?} said {said:?}, not the item's value", step.call)),
+        }
     }
 }

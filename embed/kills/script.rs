@@ -27,11 +27,13 @@ impl Step {
     }
 }
 
-/// Calls one after the other, the last one to be cut.
+/// Calls one after the other.
 pub struct Script {
     pub steps: Vec<Step>,
+    /// They are made again and again: the first one formats the table, so that each time is as the last one.
+    pub again: bool,
     /// The table after all of them.
-    table: Vec<u64>,
+    pub table: Vec<u64>,
 }
 
 /// The call that a script is to end with, by its place in `calls::ANSWERS`.
@@ -46,11 +48,22 @@ pub const COMMIT: Wish = 9;
 pub const ABANDON: Wish = 10;
 pub const RECOVER: Wish = 11;
 
+pub const FIRST_WISH: Wish = FORMAT;
+pub const LAST_WISH: Wish = RECOVER;
+
 const TRIES: u64 = 80;
 
 impl Script {
     pub fn new(table: &[u64]) -> Script {
-        Script { steps: Vec::new(), table: table.to_vec() }
+        Script { steps: Vec::new(), again: false, table: table.to_vec() }
+    }
+
+    /// Begins with a formatting in the table's own layout.
+    pub fn formatting(table: &[u64]) -> Script {
+        let Geometry { nodes, items, frames } = Geometry::of_table(table);
+        let mut script = Script::of_one(table, Call::Format { nodes, items, frames });
+        script.again = true;
+        script
     }
 
     pub fn of_one(table: &[u64], call: Call) -> Script {
@@ -127,7 +140,7 @@ impl Script {
 
     fn wished(&self, random: &mut Random, wish: Wish) -> Call {
         match wish {
-            FORMAT => self.formatting(random),
+            FORMAT => self.any_formatting(random),
             RECOVER => self.recovery(random),
             CREATE => Call::Create,
             COMMIT => Call::Commit,
@@ -153,7 +166,7 @@ impl Script {
     }
 
     /// Any layout that the slice has room for.
-    fn formatting(&self, random: &mut Random) -> Call {
+    fn any_formatting(&self, random: &mut Random) -> Call {
         let mut geometry = Geometry::of_table(&self.table);
         for _ in 0..4 {
             let other = tables::allowed_geometry(random);

@@ -79,13 +79,11 @@ impl Run<'_> {
 
     /// A recovery that is broken off: its process killed, or at a limit.
     fn broken_off(&mut self, recovery: Call) -> Result<(), String> {
-        let script = Script::of_one(&self.table, recovery);
         if self.random.percent(60) {
-            let kill = self.any_kill(&script);
-            self.kill(&script, kill)?;
             self.tally.recoveries += 1;
-            return Ok(());
+            return self.kill_in(recovery);
         }
+        let script = Script::of_one(&self.table, recovery);
         let limit = choices::any_limit(&mut self.random);
         self.make(script.last(), limit)
     }

@@ -1,7 +1,7 @@
 //! What has been met, and its report.
 
 use crate::calls::{Call, ANSWERS};
-use crate::script::{Wish, FORMAT, RECOVER};
+use crate::script::{Wish, FIRST_WISH, LAST_WISH};
 
 #[derive(Default, Clone, Copy)]
 struct Row {
@@ -58,7 +58,7 @@ impl Tally {
     /// The calls that store and were never killed in mid-list.
     pub fn unmet(&self) -> Vec<&'static str> {
         let unmet = |call: &Wish| self.calls[*call].inside == [0, 0];
-        (FORMAT..=RECOVER).filter(unmet).map(|call| ANSWERS[call].0).collect()
+        (FIRST_WISH..=LAST_WISH).filter(unmet).map(|call| ANSWERS[call].0).collect()
     }
 
     pub fn print(&self, seconds: f64, seeds: &[u64]) {
