@@ -28,7 +28,7 @@ struct Board {
 pub enum Kill {
     /// By its parent, so long after its first call began.
     Parent { after: Duration },
-    /// By a timer, so long after it was set; the child waits so long before its first call.
+    /// By a timer, so long after it was set; the child's first call is made so long after that.
     Timer { after: Duration, wait: Duration },
     /// By itself, at an instruction of its last call.
     Instruction(Aim),
@@ -99,7 +99,7 @@ impl Children {
         let Some(child) = Child::fork() else { self.be_child(script, kill, table) };
         if let Kill::Parent { after } = kill {
             self.await_begun();
-            spin(after);
+            spin_until(Instant::now(), after);
             child.kill();
         }
         match child.end() {
@@ -139,8 +139,9 @@ impl Children {
     fn be_child(&mut self, script: &Script, kill: Kill, table: &mut Lent) -> ! {
         if let Kill::Timer { after, wait } = kill {
             self.rehearse(script.last(), table);
+            let start = Instant::now();
             processes::kill_later(after);
-            spin(wait);
+            spin_until(start, wait);
         }
         match (kill, script.again) {
             (Kill::Instruction(aim), _) => self.make_all_aimed(script, aim, table),
@@ -223,9 +224,8 @@ fn drawn(draw: u64, end: u64) -> u64 {
     Random::new(draw).below(end.max(1))
 }
 
-fn spin(duration: Duration) {
-    let start = Instant::now();
-    while start.elapsed() < duration {
+fn spin_until(start: Instant, passed: Duration) {
+    while start.elapsed() < passed {
         std::hint::spin_loop();
     }
 }

@@ -42,8 +42,8 @@ use script::{Wish, ABANDON, COMMIT, CREATE, EVICT, FORMAT, OPEN, READ, RECOVER, 
 use std::time::{Duration, Instant};
 use tally::Tally;
 
-const DEFAULT_KILLS: u64 = 6000;
-const DEFAULT_SECONDS: u64 = 40;
+const DEFAULT_KILLS: u64 = 10_000;
+const DEFAULT_SECONDS: u64 = 30;
 const DEFAULT_SEEDS: [u64; 4] = [1, 2, 3, 4];
 const MOST_ROUNDS: u64 = 6;
 

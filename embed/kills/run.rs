@@ -98,7 +98,7 @@ impl Run<'_> {
             let wish = self.random.between(FIRST_WISH as u64, LAST_WISH as u64) as usize;
             script.push_wish(&mut self.random, wish);
         }
-        let after = self.microseconds(10, 300);
+        let after = Duration::from_nanos(self.random.between(10_000, 300_000));
         let kill = match self.random.percent(50) {
             true => Kill::Parent { after },
             false => Kill::Timer { after, wait: Duration::ZERO },
@@ -120,14 +120,17 @@ impl Run<'_> {
     pub fn kill_in(&mut self, call: Call) -> Result<(), String> {
         let script = Script::of_one(&self.table, call);
         let kill = match self.random.percent(MOMENTS) {
-            true => Kill::Timer { after: Duration::from_micros(15), wait: self.microseconds(8, 17) },
+            true => self.timer_at_call(),
             false => Kill::Instruction(self.any_aim(&script)),
         };
         self.kill(&script, kill).map(|_| ())
     }
 
-    fn microseconds(&mut self, least: u64, most: u64) -> Duration {
-        Duration::from_nanos(self.random.between(1000 * least, 1000 * most))
+    /// A timer that runs out about when the child makes its call.
+    fn timer_at_call(&mut self) -> Kill {
+        let call_takes = self.table.len() as u64;
+        let wait = Duration::from_nanos(self.random.between(58_500 - call_takes, 61_500));
+        Kill::Timer { after: Duration::from_micros(60), wait }
     }
 
     fn any_aim(&mut self, script: &Script) -> Aim {
@@ -142,7 +145,7 @@ impl Run<'_> {
         let count = self.place.lent.page_count();
         let (first, pages) = if self.random.percent(50) { (0, count) } else { (self.random.index(count), 1) };
         let stores = self.random.below(stores.min(50) + 1);
-        Aim::Late { first, pages, stores, instructions: self.random.below(12) }
+        Aim::Late { first, pages, stores, instructions: self.random.below(8) }
     }
 
     /// Kills a child in the script and finds the table at a limit of the call that was cut.
