@@ -21,6 +21,19 @@ pub fn survivors(table: &[u64], lost: Option<u64>) -> Vec<u64> {
     live_nodes(table).into_iter().filter(|&node| Some(node) != lost).collect()
 }
 
+/// The item that a word of the table is about, if it is about one.
+pub fn item_at(table: &[u64], place: usize) -> Option<u64> {
+    let geometry = Geometry::of_table(table);
+    let entries = geometry.entry(0, 0)..geometry.words();
+    entries.contains(&place).then(|| (place - entries.start) as u64 / 3 % geometry.items)
+}
+
+/// The live nodes with a copy of the item.
+pub fn holders(table: &[u64], item: u64) -> Vec<u64> {
+    let geometry = Geometry::of_table(table);
+    live_nodes(table).into_iter().filter(|&node| table[geometry.entry(node, item)] != 0).collect()
+}
+
 /// The save's number in a node's mark.
 pub fn number_of(table: &[u64], node: u64) -> u64 {
     table[1 + node as usize] >> 29 & tables::LARGEST_NUMBER

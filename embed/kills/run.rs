@@ -40,6 +40,8 @@ pub struct Cut {
     pub call: Call,
     /// The stores that it had made, as far as they can be seen.
     pub limit: usize,
+    /// The place of one of its stores.
+    pub store: Option<usize>,
 }
 
 /// What a killed child left.
@@ -93,6 +95,8 @@ impl Run<'_> {
     /// The child makes a script again and again.
     fn kill_at_moment(&mut self) -> Result<Found, String> {
         let mut script = Script::formatting(&self.table);
+        let saves = self.random.below(3);
+        script.push_saves(&mut self.random, saves);
         for _ in 0..if self.table.len() > MIDDLING { 6 } else { 16 } {
             script.push_random(&mut self.random, 2);
             let wish = self.random.between(FIRST_WISH as u64, LAST_WISH as u64) as usize;
@@ -109,7 +113,9 @@ impl Run<'_> {
     /// The child makes some calls and is killed in the wished one.
     fn kill_at_instruction(&mut self, wish: Wish) -> Result<Found, String> {
         let count = self.random.below(if self.table.len() > MIDDLING { 5 } else { 16 });
+        let saves = self.random.below(3);
         let mut script = Script::new(&self.table);
+        script.push_saves(&mut self.random, saves);
         script.push_random(&mut self.random, count);
         script.push_wish(&mut self.random, wish);
         let aim = self.any_aim(&script);
@@ -144,7 +150,7 @@ impl Run<'_> {
         }
         let count = self.place.lent.page_count();
         let (first, pages) = if self.random.percent(50) { (0, count) } else { (self.random.index(count), 1) };
-        let stores = self.random.below(stores.min(50) + 1);
+        let stores = self.random.below(stores.clamp(1, 50));
         Aim::Late { first, pages, stores, instructions: self.random.below(8) }
     }
 
@@ -173,7 +179,8 @@ impl Run<'_> {
         };
         let inside = limits::is_inside(&before, list, &self.table, limit);
         self.tally.note_kill(cut.map(|step| step.call), !matches!(kill, Kill::Instruction(_)), inside);
-        Ok(Found { before, cut: cut.map(|step| Cut { call: step.call, limit }) })
+        let store = (!list.is_empty()).then(|| list[self.random.index(list.len())].0);
+        Ok(Found { before, cut: cut.map(|step| Cut { call: step.call, limit, store }) })
     }
     fn compare_said(&self, script: &Script, told: &Told) -> Result<(), String> {
         match script.steps.iter().zip(&told.said).find(|(step, said)| step.said != **said) {

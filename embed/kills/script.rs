@@ -25,6 +25,11 @@ impl Step {
         };
         Step { call, said, list }
     }
+
+    /// The number of stores that change the table.
+    fn changes(&self, table: &[u64]) -> usize {
+        self.list.iter().filter(|(place, word)| table[*place] != *word).count()
+    }
 }
 
 /// Calls one after the other.
@@ -93,6 +98,14 @@ impl Script {
         }
     }
 
+    /// Some saves of some items each, so that saved values differ.
+    pub fn push_saves(&mut self, random: &mut Random, count: u64) {
+        for _ in 0..count {
+            self.close();
+            self.push_wish(random, COMMIT);
+        }
+    }
+
     /// Calls that lead to the wished one, and that one, mostly with stores to make.
     pub fn push_wish(&mut self, random: &mut Random, wish: Wish) {
         match wish {
@@ -150,14 +163,14 @@ impl Script {
         }
     }
 
-    /// A random call of this name, if it can be found soon one that stores.
+    /// A random call of this name, if it can be found soon one that can be seen in mid-list.
     fn likely(&self, random: &mut Random, wish: Wish) -> Call {
         let mut call = Call::Check;
         for _ in 0..TRIES {
             let next = choices::likely_call(random, &self.table);
             if next.name_index() == wish {
                 call = next;
-                if !Step::of(call, &self.table).list.is_empty() {
+                if Step::of(call, &self.table).changes(&self.table) > 1 {
                     break;
                 }
             }

@@ -51,18 +51,29 @@ impl Run<'_> {
     /// Any live node, or none; a recovery that was cut goes on with its name. Nothing after a cut formatting.
     fn any_blow(&mut self, found: &Found) -> Option<Blow> {
         match found.cut {
-            Some(Cut { limit: 1.., call: Call::Format { .. } }) => None,
-            Some(Cut { limit: 1.., call: Call::Recover { none, lost, .. } }) => {
+            Some(Cut { limit: 1.., call: Call::Format { .. }, .. }) => None,
+            Some(Cut { limit: 1.., call: Call::Recover { none, lost, .. }, .. }) => {
                 let lost = (none == 0).then_some(lost);
                 let hits = lost.is_some_and(|node| restored::live_nodes(&found.before).contains(&node));
                 Some(Blow { lost, hits })
             }
-            _ => {
-                let live = restored::live_nodes(&self.table);
-                let any = live[self.random.index(live.len())];
+            cut => {
+                let any = self.any_live(cut.and_then(|cut| cut.store));
                 Some(Blow { lost: (!self.random.percent(25)).then_some(any), hits: true })
             }
         }
+    }
+
+    /// A live node, often one with a copy of the item that a store was about.
+    fn any_live(&mut self, store: Option<usize>) -> u64 {
+        let live = restored::live_nodes(&self.table);
+        let item = store.and_then(|place| restored::item_at(&self.table, place));
+        let holders: Vec<u64> = match item {
+            Some(item) if self.random.percent(50) => restored::holders(&self.table, item),
+            _ => Vec::new(),
+        };
+        let choices = if holders.is_empty() { &live } else { &holders };
+        choices[self.random.index(choices.len())]
     }
 
     /// The commit that was cut counts: a survivor of the cut table carries its number.
