@@ -119,9 +119,9 @@ fn main() {
         let end = start + Duration::from_millis(1000 * seconds * index / share);
         run_seed(seed, kills * index / share, end, &mut place, &mut tally);
     }
-    tally.print(start.elapsed().as_secs_f64(), &seeds);
-    if tally.kills() < kills {
-        println!("{} kills were asked for; the time was over before", kills);
-    }
+    tally.print();
+    let over = if tally.kills() < kills { ": the time was over before" } else { "" };
+    println!("seeds {seeds:?}, {:.1} s, {kills} kills asked for{over}", start.elapsed().as_secs_f64());
+    println!("{}", tally.result());
     std::process::exit((tally.faults > 0 || !tally.unmet().is_empty()) as i32);
 }

@@ -5,7 +5,7 @@ use crate::children::{Aim, Children, Kill, Told};
 use crate::choices::WHOLE;
 use crate::lent::Lent;
 use crate::library;
-use crate::limits;
+use crate::limits::{self, Store};
 use crate::memory::Memory;
 use crate::random::Random;
 use crate::script::{Script, Step, Wish, FIRST_WISH, LAST_WISH};
@@ -157,7 +157,36 @@ impl Run<'_> {
     /// Kills a child in the script and finds the table at a limit of the call that was cut.
     pub fn kill(&mut self, script: &Script, kill: Kill) -> Result<Found, String> {
         let told = self.place.children.killed(script, kill, &mut self.place.lent)?;
-        self.compare_said(script, &told)?;
+        let cut = script.steps.get(told.finished).filter(|_| told.one_cut);
+        let at_moment = !matches!(kill, Kill::Instruction(_));
+        self.tally.note_kill(cut.map(|step| step.call), at_moment);
+        let before = self.table_before(script, &told)?;
+        self.table = self.place.lent.slice().to_vec();
+        if !self.place.lent.guards_stand() {
+            return Err(format!("words around the table have changed; {kill:?}"));
+        }
+        let Some(step) = cut else {
+            let same = before == self.table;
+            let found = Found { before, cut: None };
+            return if same { Ok(found) } else { Err(self.no_limit(&found.before, &[], "no call", kill)) };
+        };
+        let Some(limit) = limits::smallest(&before, &step.list, &self.table) else {
+            return Err(self.no_limit(&before, &step.list, &format!("{:?}", step.call), kill));
+        };
+        if limits::is_inside(&before, &step.list, &self.table, limit) {
+            self.tally.note_inside(step.call, at_moment);
+        }
+        let store = (!step.list.is_empty()).then(|| step.list[self.random.index(step.list.len())].0);
+        Ok(Found { before, cut: Some(Cut { call: step.call, limit, store }) })
+    }
+
+    fn no_limit(&self, before: &[u64], list: &[Store], call: &str, kill: Kill) -> String {
+        format!("the table is at no limit of {call}; {kill:?}; {}", limits::farness(before, list, &self.table))
+    }
+
+    /// The table after the finished calls, which the plain memory is fed with.
+    fn table_before(&mut self, script: &Script, told: &Told) -> Result<Vec<u64>, String> {
+        self.compare_said(script, told)?;
         let mut before = self.table.clone();
         if told.laps > 0 {
             self.feed(&script.steps, &told.said)?;
@@ -166,22 +195,9 @@ impl Run<'_> {
         let finished = &script.steps[..told.finished];
         self.feed(finished, &told.said)?;
         finished.iter().for_each(|step| limits::make(&mut before, &step.list));
-        self.table = self.place.lent.slice().to_vec();
-        if !self.place.lent.guards_stand() {
-            return Err(format!("words around the table have changed; {kill:?}"));
-        }
-        let cut = script.steps.get(told.finished).filter(|_| told.one_cut);
-        let list = cut.map_or(&[][..], |step| &step.list);
-        let Some(limit) = limits::smallest(&before, list, &self.table) else {
-            let call = cut.map(|step| step.call);
-            let farness = limits::farness(&before, list, &self.table);
-            return Err(format!("no limit of {call:?} was found; {kill:?}; {farness}"));
-        };
-        let inside = limits::is_inside(&before, list, &self.table, limit);
-        self.tally.note_kill(cut.map(|step| step.call), !matches!(kill, Kill::Instruction(_)), inside);
-        let store = (!list.is_empty()).then(|| list[self.random.index(list.len())].0);
-        Ok(Found { before, cut: cut.map(|step| Cut { call: step.call, limit, store }) })
+        Ok(before)
     }
+
     fn compare_said(&self, script: &Script, told: &Told) -> Result<(), String> {
         match script.steps.iter().zip(&told.said).find(|(step, said)| step.said != **said) {
             None => Ok(()),

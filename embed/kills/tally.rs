@@ -28,22 +28,24 @@ pub struct Tally {
 const SHOWN: u64 = 10;
 
 impl Tally {
-    pub fn note_kill(&mut self, cut: Option<Call>, at_moment: bool, inside: bool) {
+    /// A child killed in a call, or in none.
+    pub fn note_kill(&mut self, call: Option<Call>, at_moment: bool) {
         self.kills[at_moment as usize] += 1;
-        match cut {
+        match call {
             None => self.between += 1,
-            Some(call) => {
-                let row = &mut self.calls[call.name_index()];
-                row.kills += 1;
-                row.inside[at_moment as usize] += inside as u64;
-            }
+            Some(call) => self.calls[call.name_index()].kills += 1,
         }
+    }
+
+    /// It was killed in mid-list.
+    pub fn note_inside(&mut self, call: Call, at_moment: bool) {
+        self.calls[call.name_index()].inside[at_moment as usize] += 1;
     }
 
     pub fn note_fault(&mut self, seed: u64, run: u64, round: u64, fault: &str) {
         self.faults += 1;
         if self.faults <= SHOWN {
-            println!("fault in seed {seed}, run {run}, round {round}: {fault}");
+            println!("fault after {} kills, in seed {seed}, run {run}, round {round}: {fault}", self.kills());
         }
     }
 
@@ -61,7 +63,7 @@ impl Tally {
         (FIRST_WISH..=LAST_WISH).filter(unmet).map(|call| ANSWERS[call].0).collect()
     }
 
-    pub fn print(&self, seconds: f64, seeds: &[u64]) {
+    pub fn print(&self) {
         println!("killed in      kills   in mid-list   (at a moment, at an instruction)");
         for (row, (name, _)) in self.calls.iter().zip(ANSWERS).filter(|(row, _)| row.kills > 0) {
             let [instructions, moments] = row.inside;
@@ -70,11 +72,11 @@ impl Tally {
             println!("  {name:8} {:9} {inside:7} {share:4} %   ({moments}, {instructions})", row.kills);
         }
         println!("  {:8} {:9}", "no call", self.between);
-        println!("{} cut commits were finished by their recovery; seeds {seeds:?}, {seconds:.1} s", self.finished_commits);
-        println!("{}", self.result());
+        println!("{} cut commits were finished by their recovery", self.finished_commits);
     }
 
-    fn result(&self) -> String {
+    /// In one line.
+    pub fn result(&self) -> String {
         let [instructions, moments] = self.kills;
         let mut line = format!(
             "{} processes killed ({moments} at a moment, {instructions} at an instruction), {} in mid-list, \
