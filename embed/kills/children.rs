@@ -4,15 +4,12 @@ use crate::calls::Said;
 use crate::choices::WHOLE;
 use crate::lent::Lent;
 use crate::on_library::on_library;
-use crate::processes::{self, Child, End, From, Pages};
+use crate::processes::{self, Child, End, From, Pages, PAGE_WORDS};
 use crate::random::Random;
-use crate::script::{Script, Step};
+use crate::script::{Script, Step, MOST_CALLS};
 use std::sync::atomic::AtomicU64;
 use std::sync::atomic::Ordering::{Relaxed, SeqCst};
 use std::time::{Duration, Instant};
-
-/// The most calls of a script.
-pub const MOST_CALLS: usize = 600;
 
 /// What a child tells: written by it alone, in shared memory.
 #[repr(C)]
@@ -78,14 +75,14 @@ pub struct Children {
 }
 
 /// Longer than any child takes to begin.
-const PATIENCE: Duration = Duration::from_secs(20);
+const PATIENCE: Duration = Duration::from_secs(10);
 
 /// The parent looks so long without giving its processor away.
 const SPINNING: Duration = Duration::from_micros(200);
 
 impl Children {
     pub fn new() -> Children {
-        let pages = Pages::shared(std::mem::size_of::<Board>().div_ceil(4096));
+        let pages = Pages::shared(std::mem::size_of::<Board>().div_ceil(8 * PAGE_WORDS));
         Children { board: pages.start() as *const Board, scratch: vec![SCRATCH_WORD; SCRATCH] }
     }
 
@@ -156,12 +153,12 @@ impl Children {
         }
     }
 
-    /// Touches every page and makes a call on a copy, so that later ones do not wait for their pages.
+    /// Touches every page and makes a call on a copy, so that the calls do not wait for their pages.
     fn rehearse(&mut self, step: &Step, table: &mut Lent) {
         let mut copy = table.private_copy();
         self.call(step, &mut copy);
         table.touch();
-        self.board().ended.fetch_or(0, SeqCst);
+        self.clear();
     }
 
     fn make_all(&mut self, script: &Script, table: &mut Lent) {

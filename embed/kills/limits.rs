@@ -49,8 +49,8 @@ pub fn farness(before: &[u64], list: &[Store], found: &[u64]) -> String {
     let nearest = differing_at(before, list, found).min_by_key(|(_, differing)| *differing);
     let (limit, differing) = nearest.expect("a list has a limit");
     let listed = table_at(before, list, limit);
-    let places = (0..found.len()).filter(|&place| found[place] != listed[place]).take(4);
-    let words: Vec<String> =
-        places.map(|place| format!("word {place}: found {:016x}, listed {:016x}", found[place], listed[place])).collect();
+    let pairs = found.iter().zip(&listed).enumerate().filter(|(_, (ours, theirs))| ours != theirs);
+    let tell = |(place, (ours, theirs))| format!("word {place}: found {ours:016x}, listed {theirs:016x}");
+    let words: Vec<String> = pairs.map(tell).take(4).collect();
     format!("nearest is limit {limit} of {}, {differing} words differ: {}", list.len(), words.join("; "))
 }

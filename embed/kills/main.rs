@@ -44,6 +44,9 @@ use tally::Tally;
 
 const DEFAULT_KILLS: u64 = 10_000;
 const DEFAULT_SECONDS: u64 = 30;
+/// A test that still runs so many seconds after its time is ended.
+const GRACE: u64 = 60;
+const MOST_SECONDS: u64 = 1_000_000;
 const DEFAULT_SEEDS: [u64; 4] = [1, 2, 3, 4];
 const MOST_ROUNDS: u64 = 6;
 
@@ -99,7 +102,7 @@ fn arguments() -> Bounds {
     while let Some(argument) = rest.next() {
         match argument.as_str() {
             "--kills" => bounds.kills = number(&rest.next().unwrap_or_default()),
-            "--seconds" => bounds.seconds = number(&rest.next().unwrap_or_default()),
+            "--seconds" => bounds.seconds = number(&rest.next().unwrap_or_default()).min(MOST_SECONDS),
             seed => bounds.seeds.push(number(seed)),
         }
     }
@@ -112,12 +115,13 @@ fn arguments() -> Bounds {
 fn main() {
     let Bounds { kills, seconds, seeds } = arguments();
     let start = Instant::now();
+    processes::end_after(seconds + GRACE);
     let mut place = Place::new();
     let mut tally = Tally::default();
+    let share = seeds.len() as u64;
     for (index, &seed) in (1..).zip(&seeds) {
-        let share = seeds.len() as u64;
         let end = start + Duration::from_millis(1000 * seconds * index / share);
-        run_seed(seed, kills * index / share, end, &mut place, &mut tally);
+        run_seed(seed, kills.saturating_mul(index) / share, end, &mut place, &mut tally);
     }
     tally.print();
     let over = if tally.kills() < kills { ": the time was over before" } else { "" };

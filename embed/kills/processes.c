@@ -14,7 +14,6 @@
 #include <signal.h>
 #include <stddef.h>
 #include <stdint.h>
-#include <stdlib.h>
 #include <sys/mman.h>
 #include <sys/prctl.h>
 #include <sys/wait.h>
@@ -134,14 +133,19 @@ static void handle(int number, void (*handler)(int, siginfo_t *, void *)) {
     sigaction(number, &action, NULL);
 }
 
+/* This process ends after so many seconds at the latest. */
+void processes_end_after(unsigned seconds) {
+    signal(SIGALRM, SIG_DFL);
+    alarm(seconds);
+}
+
 static void begin_as_child(pid_t parent, unsigned seconds) {
     stack_t stack = {.ss_sp = handlers_stack, .ss_size = sizeof handlers_stack};
     prctl(PR_SET_PDEATHSIG, SIGKILL);
     if (getppid() != parent)
         _exit(1);
     step.self = getpid();
-    signal(SIGALRM, SIG_DFL);
-    alarm(seconds);
+    processes_end_after(seconds);
     sigaltstack(&stack, NULL);
     handle(SIGSEGV, on_fault);
     handle(SIGTRAP, on_trap);

@@ -6,6 +6,7 @@ use std::time::Duration;
 extern "C" {
     fn processes_memory(bytes: usize, shared: i32) -> *mut c_void;
     fn processes_fork(seconds: u32) -> i32;
+    fn processes_end_after(seconds: u32);
     fn processes_kill(child: i32);
     fn processes_end(child: i32) -> i32;
     fn processes_kill_self() -> !;
@@ -20,7 +21,7 @@ const PAGE_BYTES: usize = 4096;
 pub const PAGE_WORDS: usize = PAGE_BYTES / 8;
 
 /// Seconds after which a child ends by itself.
-const CHILD_SECONDS: u32 = 30;
+const CHILD_SECONDS: u32 = 10;
 
 /// Pages of memory of this process, or shared with its children; they are never given back.
 #[derive(Clone, Copy)]
@@ -89,6 +90,11 @@ impl Child {
             other => End::Otherwise(other),
         }
     }
+}
+
+/// This process ends when the time is over, whatever it does.
+pub fn end_after(seconds: u64) {
+    unsafe { processes_end_after(seconds.min(u32::MAX as u64) as u32) }
 }
 
 pub fn kill_self() -> ! {

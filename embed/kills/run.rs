@@ -150,7 +150,7 @@ impl Run<'_> {
         }
         let count = self.place.lent.page_count();
         let (first, pages) = if self.random.percent(50) { (0, count) } else { (self.random.index(count), 1) };
-        let stores = self.random.below(stores.clamp(1, 50));
+        let stores = self.random.below(stores.clamp(1, 400));
         Aim::Late { first, pages, stores, instructions: self.random.below(8) }
     }
 

@@ -32,6 +32,9 @@ impl Step {
     }
 }
 
+/// The most calls of a script.
+pub const MOST_CALLS: usize = 600;
+
 /// Calls one after the other.
 pub struct Script {
     pub steps: Vec<Step>,
@@ -77,10 +80,16 @@ impl Script {
         script
     }
 
+    /// One more call, if the script has room for it.
     pub fn push(&mut self, call: Call) {
-        let step = Step::of(call, &self.table);
-        limits::make(&mut self.table, &step.list);
-        self.steps.push(step);
+        self.push_step(Step::of(call, &self.table));
+    }
+
+    fn push_step(&mut self, step: Step) {
+        if self.steps.len() < MOST_CALLS {
+            limits::make(&mut self.table, &step.list);
+            self.steps.push(step);
+        }
     }
 
     pub fn last(&self) -> &Step {
@@ -143,11 +152,11 @@ impl Script {
             _ => random.below(2),
         };
         for _ in 0..creations {
-            self.push(Call::Create);
-            if self.last().said.0 != 0 {
-                self.steps.pop();
+            let step = Step::of(Call::Create, &self.table);
+            if step.said.0 != 0 {
                 break;
             }
+            self.push_step(step);
         }
     }
 
