@@ -55,9 +55,11 @@ impl Aim {
 
 /// Which calls a killed child had made.
 pub struct Told {
-    /// The script was made so often.
+    /// So many calls were finished.
+    pub made: u64,
+    /// The script was made so often,
     pub laps: u64,
-    /// Then so many of its calls were finished,
+    /// then so many of its calls were finished,
     pub finished: usize,
     /// and one more had begun.
     pub one_cut: bool,
@@ -115,6 +117,7 @@ impl Children {
         let (begun, ended) = (board.begun.load(SeqCst) as usize, board.ended.load(SeqCst) as usize);
         let said = |call: &[AtomicU64; 3]| (call[0].load(Relaxed), call[1].load(Relaxed), call[2].load(Relaxed));
         Told {
+            made: ended as u64,
             laps: (ended / calls) as u64,
             finished: ended % calls,
             one_cut: begun > ended,

@@ -20,7 +20,6 @@
 #include <time.h>
 #include <ucontext.h>
 #include <unistd.h>
-#include <x86intrin.h>
 
 #define TRAP_FLAG 0x100
 
@@ -189,12 +188,24 @@ void processes_count_after(void *pages, size_t bytes, uint64_t passes, uint64_t 
     step.watch = CLOSED;
 }
 
+/* Sets the trap flag of this process; 128 bytes under the stack pointer may be in use. */
+static void trap_from_here(void) {
+    __asm__ volatile("leaq -128(%%rsp), %%rsp\n\t"
+                     "pushfq\n\t"
+                     "orq %0, (%%rsp)\n\t"
+                     "popfq\n\t"
+                     "leaq 128(%%rsp), %%rsp"
+                     :
+                     : "i"(TRAP_FLAG)
+                     : "memory", "cc");
+}
+
 /* The same, counting from here on. */
 void processes_count_from_here(uint64_t last, int deadly) {
     begin_counting(last, deadly);
     step.bytes = 0;
     step.watch = COUNTING;
-    __writeeflags(__readeflags() | TRAP_FLAG);
+    trap_from_here();
 }
 
 /* Ends the counting; the instructions counted. */

@@ -17,11 +17,16 @@ use std::time::Duration;
 pub struct Place {
     pub lent: Lent,
     pub children: Children,
+    /// A child that begins its call so long after it has set `TIMER` is mostly killed in it.
+    wait: Duration,
 }
+
+const TIMER: Duration = Duration::from_micros(60);
+const LEARNT: Duration = Duration::from_nanos(200);
 
 impl Place {
     pub fn new() -> Place {
-        Place { lent: Lent::shared(), children: Children::new() }
+        Place { lent: Lent::shared(), children: Children::new(), wait: TIMER }
     }
 }
 
@@ -46,7 +51,8 @@ pub struct Cut {
 
 /// What a killed child left.
 pub struct Found {
-    /// The table after the finished calls.
+    /// The number of finished calls, and the table after them.
+    pub made: u64,
     pub before: Vec<u64>,
     pub cut: Option<Cut>,
 }
@@ -125,24 +131,29 @@ impl Run<'_> {
     /// Kills a child that makes this one call.
     pub fn kill_in(&mut self, call: Call) -> Result<(), String> {
         let script = Script::of_one(&self.table, call);
-        let kill = match self.random.percent(MOMENTS) {
-            true => self.timer_at_call(),
-            false => Kill::Instruction(self.any_aim(&script)),
-        };
-        self.kill(&script, kill).map(|_| ())
+        if self.random.percent(MOMENTS) {
+            return self.kill_by_timer(&script);
+        }
+        let aim = self.any_aim(&script);
+        self.kill(&script, Kill::Instruction(aim)).map(|_| ())
     }
 
-    /// A timer that runs out about when the child makes its call.
-    fn timer_at_call(&mut self) -> Kill {
-        let call_takes = self.table.len() as u64;
-        let wait = Duration::from_nanos(self.random.between(58_500 - call_takes, 61_500));
-        Kill::Timer { after: Duration::from_micros(60), wait }
+    /// The timer runs out about when the child makes its call; how long the child must wait for it, is learnt.
+    fn kill_by_timer(&mut self, script: &Script) -> Result<(), String> {
+        let wait = self.place.wait + Duration::from_nanos(self.random.below(800));
+        let found = self.kill(script, Kill::Timer { after: TIMER, wait })?;
+        match (found.cut, found.made) {
+            (Some(_), _) => (),
+            (None, 0) => self.place.wait -= LEARNT.min(self.place.wait),
+            (None, _) => self.place.wait = (2 * TIMER).min(self.place.wait + LEARNT),
+        }
+        Ok(())
     }
 
     fn any_aim(&mut self, script: &Script) -> Aim {
         let stores = script.last().list.len() as u64;
         let draw = self.random.word();
-        if self.table.len() <= SMALL && self.random.percent(4) {
+        if self.table.len() <= SMALL && self.random.percent(2) {
             return Aim::Anywhere { draw };
         }
         if self.table.len() <= MIDDLING && self.random.percent(50) {
@@ -167,7 +178,7 @@ impl Run<'_> {
         }
         let Some(step) = cut else {
             let same = before == self.table;
-            let found = Found { before, cut: None };
+            let found = Found { made: told.made, before, cut: None };
             return if same { Ok(found) } else { Err(self.no_limit(&found.before, &[], "no call", kill)) };
         };
         let Some(limit) = limits::smallest(&before, &step.list, &self.table) else {
@@ -177,7 +188,7 @@ impl Run<'_> {
             self.tally.note_inside(step.call, at_moment);
         }
         let store = (!step.list.is_empty()).then(|| step.list[self.random.index(step.list.len())].0);
-        Ok(Found { before, cut: Some(Cut { call: step.call, limit, store }) })
+        Ok(Found { made: told.made, before, cut: Some(Cut { call: step.call, limit, store }) })
     }
 
     fn no_limit(&self, before: &[u64], list: &[Store], call: &str, kill: Kill) -> String {
