@@ -64,21 +64,19 @@ struct Bounds {
 /// The runs of one seed, until the tally has so many kills or the time is over.
 fn run_seed(seed: u64, kills: u64, end: Instant, place: &mut Place, tally: &mut Tally) {
     let mut run = 0;
-    let mut rounds = 0;
     while tally.kills() < kills && tally.faults < kills && Instant::now() < end {
         run += 1;
         let random = Random::new(seed.wrapping_mul(0x9e37_79b9) ^ run << 32);
         match Run::begin(random, place, tally) {
             Err(fault) => tally.note_fault(seed, run, 0, &fault),
-            Ok(begun) => run_rounds(begun, seed, run, &mut rounds),
+            Ok(begun) => run_rounds(begun, seed, run),
         }
     }
 }
 
-fn run_rounds(mut run: Run, seed: u64, number: u64, rounds: &mut u64) {
+fn run_rounds(mut run: Run, seed: u64, number: u64) {
     for round in 1..=run.random.between(1, MOST_ROUNDS) {
-        *rounds += 1;
-        match run.round(WISHES[*rounds as usize % WISHES.len()]) {
+        match run.round(WISHES[(number + round) as usize % WISHES.len()]) {
             Ok(true) => (),
             Ok(false) => break,
             Err(fault) => {
