@@ -1,7 +1,7 @@
 //! A restored table, item by item, against the plain memory.
 
-use crate::library;
 use crate::choices::WHOLE;
+use crate::library;
 use crate::memory::Memory;
 use crate::random::Random;
 use crate::tables::{self, Geometry};
