@@ -1,7 +1,7 @@
 //! The C functions of the library over the reference, with a fault planted: what a compiler might make of the
 //! stores between two limits. The answers and every table that a call leaves stay right, so that only
-//! a test that sees each store can find it. PLANTED names the fault: exchanged, dropped, equal, merged,
-//! doubled, split, or none.
+//! a test that sees each store can find it, or one that stops a call in its middle. PLANTED names the
+//! fault: exchanged, dropped, equal, merged, doubled, split, reversed, or none.
 
 #[path = "../differential/calls.rs"]
 #[allow(dead_code)]
@@ -52,36 +52,41 @@ unsafe fn store_without_equal(table: *mut u64, stores: &[Store]) {
     }
 }
 
-/// A Write's stores end with those of the writer: a Shared-CK copy's kept value and its state with current Invalid
-/// are stored before the new value and the state Modified.
+/// The last three stores of a Write by a node with a Shared-CK copy: its state with current Invalid, the new value,
+/// the state Modified, which covers the first. Most faults are planted there.
+fn writers_end(call: Call, stores: &[Store]) -> Option<[Store; 3]> {
+    match (call, stores) {
+        (Call::Write { .. }, &[.., invalid, value, state]) if invalid.0 == state.0 => Some([invalid, value, state]),
+        _ => None,
+    }
+}
+
 unsafe fn store_with_fault(fault: &str, call: Call, table: *mut u64, stores: &[Store]) {
-    let (before, end) = stores.split_at(stores.len().saturating_sub(3));
-    match (fault, call, end) {
+    match (fault, call, writers_end(call, stores)) {
         ("equal", _, _) => store_without_equal(table, stores),
-        ("exchanged", Call::Write { .. }, &[invalid, value, state]) => {
-            store_all(table, before);
-            store_all(table, &[value, invalid, state]);
+        ("reversed", Call::Format { .. }, _) => stores.iter().rev().for_each(|&one| store(table, one)),
+        ("exchanged" | "dropped" | "merged" | "doubled" | "split", _, Some(end)) => {
+            store_all(table, &stores[..stores.len() - end.len()]);
+            store_end_with_fault(fault, table, end);
         }
-        ("dropped", Call::Write { .. }, &[_, value, state]) => {
-            store_all(table, before);
-            store_all(table, &[value, state]);
-        }
-        ("merged", Call::Write { .. }, &[invalid, value, state]) => {
-            store_all(table, before);
+        _ => store_all(table, stores),
+    }
+}
+
+unsafe fn store_end_with_fault(fault: &str, table: *mut u64, [invalid, value, state]: [Store; 3]) {
+    match fault {
+        "exchanged" => store_all(table, &[value, invalid, state]),
+        "dropped" => store_all(table, &[value, state]),
+        "doubled" => store_all(table, &[invalid, value, state, state]),
+        "merged" => {
             store(table, invalid);
             store_merged(table, state, value);
         }
-        ("doubled", Call::Write { .. }, &[.., state]) => {
-            store_all(table, stores);
-            store(table, state);
-        }
-        ("split", Call::Write { .. }, &[invalid, value, state]) => {
-            store_all(table, before);
+        _ => {
             store(table, invalid);
             store_split(table, value);
             store(table, state);
         }
-        _ => store_all(table, stores),
     }
 }
 
