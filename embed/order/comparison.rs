@@ -11,7 +11,6 @@ use crate::runs::Subject;
 use crate::tables::Geometry;
 use crate::watch::Watched;
 
-const SHOWN: u64 = 10;
 const SCRATCH_WORD: u64 = 0x0123_4567_89ab_cdef;
 
 /// The most items of a table, by class.
@@ -41,6 +40,8 @@ pub struct Tally {
 pub struct Watch<'a> {
     pub seed: u64,
     pub run: u64,
+    /// So many faults are shown.
+    pub shown: u64,
     pub table: &'a mut Watched,
     pub tally: &'a mut Tally,
     pub left: u64,
@@ -133,7 +134,7 @@ impl Watch<'_> {
 
     fn report(&mut self, call: Call, limit: u64, text: &str) {
         self.tally.faults += 1;
-        if self.tally.faults <= SHOWN {
+        if self.tally.faults <= self.shown {
             println!("fault in seed {}, run {}: {call:?}, limit {limit}: {text}", self.seed, self.run);
         }
     }

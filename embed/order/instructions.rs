@@ -13,6 +13,8 @@ pub struct Instruction {
     pub address: u64,
     pub function: String,
     pub offset: u64,
+    /// Its bytes.
+    pub length: usize,
     pub text: String,
 }
 
@@ -61,15 +63,18 @@ fn loaded_at(linked: &[(u64, String)]) -> u64 {
 fn storing_in(listing: &str, names: &HashSet<String>, loaded: u64) -> Vec<Instruction> {
     let mut function = (0, String::new());
     let mut found = Vec::new();
-    for line in listing.lines() {
+    let mut lines = listing.lines().peekable();
+    while let Some(line) = lines.next() {
         if let Some(head) = function_head(line) {
             function = head;
         } else if let Some((address, text)) = instruction(line) {
             if names.contains(&function.1) && stores(text) {
+                let next = lines.peek().and_then(|line| instruction(line)).map_or(address, |(next, _)| next);
                 found.push(Instruction {
                     address: address.wrapping_add(loaded),
                     function: function.1.clone(),
                     offset: address - function.0,
+                    length: (next - address) as usize,
                     text: text.split_whitespace().collect::<Vec<_>>().join(" "),
                 });
             }

@@ -5,12 +5,14 @@
 //! engine, stores of a word that is there already included), up to the limit; and of a whole call the
 //! library's own limits 0, 1, 2, .. must leave the table as the first so many of them do. Every store
 //! is of one aligned word of 8 bytes. At the end every instruction of the library that can store was
-//! run, or is named below.
+//! run, or is named in `verdict.rs`; and each that stored to a table is taken out in turn, which must be
+//! found.
 //!
 //! Usage: order [--calls NUMBER] [--seconds NUMBER] [--brief] ARCHIVE [SEED ...]
 //!
 //! ARCHIVE is the library that this program is linked with. With --brief there are no runs on large
-//! tables, and it is not asked whether every instruction was run and every answer met.
+//! tables, and it is not asked whether every instruction was run and every answer met, nor is any taken
+//! out.
 
 #[path = "../differential/calls.rs"]
 mod calls;
@@ -31,6 +33,7 @@ mod reference;
 mod runs;
 #[path = "../differential/tables.rs"]
 mod tables;
+mod taken_out;
 mod verdict;
 mod watch;
 
@@ -43,6 +46,7 @@ use watch::Watched;
 const DEFAULT_CALLS: u64 = 100_000;
 const DEFAULT_SECONDS: u64 = 120;
 const DEFAULT_SEEDS: [u64; 2] = [1, 2];
+const SHOWN: u64 = 10;
 
 struct Arguments {
     calls: u64,
@@ -113,11 +117,12 @@ fn main() {
     let left = given.calls.div_ceil(given.seeds.len() as u64);
     for &seed in &given.seeds {
         let (table, tally) = (&mut table, &mut tally);
-        run_seed(!given.brief, &mut Watch { seed, run: 0, table, tally, left, until });
+        run_seed(!given.brief, &mut Watch { seed, run: 0, shown: SHOWN, table, tally, left, until });
     }
     let mut faults = tally.faults + verdict::judge_instructions(&storing, &tally.instructions);
     if !given.brief {
         faults += verdict::judge_reached(&storing) + verdict::judge_met(&tally);
+        faults += taken_out::judge(&storing, &tally.instructions, &mut table);
     }
     let sizes: Vec<String> = SIZES.iter().zip(tally.sizes).map(|(most, calls)| format!("{most}: {calls}")).collect();
     println!("calls on tables of items up to {}", sizes.join(", "));

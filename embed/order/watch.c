@@ -174,10 +174,28 @@ uint64_t watch_stop(void)
     return noted;
 }
 
-int watch_instruction(uint64_t address)
+/* Code that can be written; an instruction may reach into the next page. */
+static int open_code(uint64_t address)
 {
     uintptr_t page = (uintptr_t)address & ~(uintptr_t)(PAGE - 1);
-    if (instruction_count == INSTRUCTIONS || mprotect((void *)page, PAGE, PROT_READ | PROT_WRITE | PROT_EXEC))
+    return mprotect((void *)page, 2 * PAGE, PROT_READ | PROT_WRITE | PROT_EXEC);
+}
+
+int watch_exchange(uint64_t address, unsigned char *bytes, uint64_t count)
+{
+    if (open_code(address))
+        return -1;
+    for (uint64_t at = 0; at < count; at++) {
+        unsigned char byte = *(volatile unsigned char *)(uintptr_t)(address + at);
+        put_byte(address + at, bytes[at]);
+        bytes[at] = byte;
+    }
+    return 0;
+}
+
+int watch_instruction(uint64_t address)
+{
+    if (instruction_count == INSTRUCTIONS || open_code(address))
         return -1;
     instructions[instruction_count].address = address;
     instructions[instruction_count].byte = *(unsigned char *)(uintptr_t)address;

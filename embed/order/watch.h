@@ -43,4 +43,7 @@ int watch_instruction(uint64_t address);
 /* Was it run since? */
 int watch_was_run(uint64_t address);
 
+/* The bytes at the address become these, and these the bytes that were there; 0, or -1. */
+int watch_exchange(uint64_t address, unsigned char *bytes, uint64_t count);
+
 #endif

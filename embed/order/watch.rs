@@ -20,6 +20,7 @@ extern "C" {
     fn watch_stop() -> u64;
     fn watch_instruction(address: u64) -> i32;
     fn watch_was_run(address: u64) -> i32;
+    fn watch_exchange(address: u64, bytes: *mut u8, count: u64) -> i32;
 }
 
 impl Note {
@@ -94,4 +95,20 @@ pub fn watch_for(address: u64) {
 
 pub fn was_run(address: u64) -> bool {
     unsafe { watch_was_run(address) != 0 }
+}
+
+/// An instruction that does nothing, of one byte.
+const DOES_NOTHING: u8 = 0x90;
+
+/// Does something while the instruction at the address, of so many bytes, does nothing.
+pub fn without<Done>(address: u64, length: usize, does: impl FnOnce() -> Done) -> Done {
+    let mut bytes = vec![DOES_NOTHING; length];
+    let mut exchange = || {
+        let exchanged = unsafe { watch_exchange(address, bytes.as_mut_ptr(), length as u64) };
+        assert_eq!(exchanged, 0, "the instruction at {address:x} cannot be taken out");
+    };
+    exchange();
+    let done = does();
+    exchange();
+    done
 }
