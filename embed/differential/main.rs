@@ -105,7 +105,7 @@ impl Comparison<'_> {
 fn run_seed(seed: u64, calls: u64, tally: &mut Tally) {
     let mut runs = Runs::new(seed);
     let mut comparison = Comparison { seed, run: 0, twins: Twins::new(&[]), tally, left: calls };
-    runs.large(&mut comparison);
+    runs.rare(&mut comparison);
     while comparison.left > 0 {
         comparison.run += 1;
         runs.next(&mut comparison);

@@ -8,6 +8,9 @@ use crate::tables::{self, Geometry};
 /// Nodes and items: the most of both, and of each with few of the other.
 const LARGE: [(u64, u64); 4] = [(16, 256), (3, 256), (16, 65), (9, 64)];
 
+/// Enough for every call to meet an empty table.
+const EMPTY_CALLS: u64 = 200;
+
 /// The table that the calls of a run are made on, and what is asked of each call.
 pub trait Subject {
     fn table(&self) -> &[u64];
@@ -39,8 +42,14 @@ impl Runs {
         }
     }
 
-    /// Strikes at the largest geometries, which the other runs hardly meet: with the most frames and the fewest.
-    pub fn large(&mut self, subject: &mut impl Subject) -> bool {
+    /// What the other runs hardly meet: empty tables and the largest.
+    pub fn rare(&mut self, subject: &mut impl Subject) -> bool {
+        subject.set(&[]);
+        self.any_calls(subject, EMPTY_CALLS) && self.large(subject)
+    }
+
+    /// Strikes at the largest geometries, with the most frames and the fewest.
+    fn large(&mut self, subject: &mut impl Subject) -> bool {
         LARGE.iter().all(|&(nodes, items)| {
             let fewest = tables::fewest_frames(nodes, items);
             let frames = self.random.one_of(&[fewest, fewest + 1, 2 * items, 512]);

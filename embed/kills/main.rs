@@ -44,7 +44,8 @@ use std::time::{Duration, Instant};
 use tally::Tally;
 
 const DEFAULT_KILLS: u64 = 10_000;
-const DEFAULT_SECONDS: u64 = 30;
+/// For so many kills, and in proportion for more.
+const DEFAULT_SECONDS: u64 = 60;
 /// A test that still runs so many seconds after its time is ended.
 const GRACE: u64 = 60;
 const MOST_SECONDS: u64 = 1_000_000;
@@ -96,18 +97,21 @@ fn number(text: &str) -> u64 {
 }
 
 fn arguments() -> Bounds {
-    let mut bounds = Bounds { kills: DEFAULT_KILLS, seconds: DEFAULT_SECONDS, seeds: Vec::new() };
+    let mut bounds = Bounds { kills: DEFAULT_KILLS, seconds: 0, seeds: Vec::new() };
+    let mut seconds = None;
     let mut rest = std::env::args().skip(1);
     while let Some(argument) = rest.next() {
         match argument.as_str() {
             "--kills" => bounds.kills = number(&rest.next().unwrap_or_default()),
-            "--seconds" => bounds.seconds = number(&rest.next().unwrap_or_default()).min(MOST_SECONDS),
+            "--seconds" => seconds = Some(number(&rest.next().unwrap_or_default())),
             seed => bounds.seeds.push(number(seed)),
         }
     }
     if bounds.seeds.is_empty() {
         bounds.seeds = DEFAULT_SEEDS.to_vec();
     }
+    let in_proportion = DEFAULT_SECONDS.saturating_mul(bounds.kills.div_ceil(DEFAULT_KILLS));
+    bounds.seconds = seconds.unwrap_or(in_proportion).min(MOST_SECONDS);
     bounds
 }
 

@@ -10,9 +10,9 @@
 //!
 //! Usage: order [--calls NUMBER] [--seconds NUMBER] [--brief] ARCHIVE [SEED ...]
 //!
-//! ARCHIVE is the library that this program is linked with. With --brief there are no runs on large
-//! tables, and it is not asked whether every instruction was run and every answer met, nor is any taken
-//! out.
+//! ARCHIVE is the library that this program is linked with. With --brief there are no runs on empty and
+//! large tables, no instruction is taken out, and it is not asked whether each was run and every answer
+//! met.
 
 #[path = "../differential/calls.rs"]
 mod calls;
@@ -44,13 +44,15 @@ use runs::Runs;
 use watch::Watched;
 
 const DEFAULT_CALLS: u64 = 100_000;
+/// For so many calls, and in proportion for more.
 const DEFAULT_SECONDS: u64 = 120;
+const MOST_SECONDS: u64 = 1_000_000;
 const DEFAULT_SEEDS: [u64; 2] = [1, 2];
 const SHOWN: u64 = 10;
 
 struct Arguments {
     calls: u64,
-    seconds: u64,
+    seconds: Option<u64>,
     brief: bool,
     archive: String,
     seeds: Vec<u64>,
@@ -68,7 +70,7 @@ fn number(text: Option<String>) -> u64 {
 fn arguments() -> Arguments {
     let mut given = Arguments {
         calls: DEFAULT_CALLS,
-        seconds: DEFAULT_SECONDS,
+        seconds: None,
         brief: false,
         archive: String::new(),
         seeds: Vec::new(),
@@ -77,7 +79,7 @@ fn arguments() -> Arguments {
     while let Some(argument) = rest.next() {
         match argument.as_str() {
             "--calls" => given.calls = number(rest.next()),
-            "--seconds" => given.seconds = number(rest.next()),
+            "--seconds" => given.seconds = Some(number(rest.next())),
             "--brief" => given.brief = true,
             _ if given.archive.is_empty() => given.archive = argument,
             _ => given.seeds.push(number(Some(argument))),
@@ -92,11 +94,11 @@ fn arguments() -> Arguments {
     given
 }
 
-/// The runs of one seed, those on large tables first where they are wanted.
-fn run_seed(large: bool, watch: &mut Watch) {
+/// The runs of one seed, the rare ones first where they are wanted.
+fn run_seed(rare: bool, watch: &mut Watch) {
     let mut runs = Runs::new(watch.seed);
-    if large {
-        runs.large(watch);
+    if rare {
+        runs.rare(watch);
     }
     while !watch.spent() {
         watch.run += 1;
@@ -113,7 +115,8 @@ fn main() {
         storing.iter().for_each(|instruction| watch::watch_for(instruction.address));
     }
     let start = Instant::now();
-    let until = start + Duration::from_secs(given.seconds);
+    let in_proportion = DEFAULT_SECONDS.saturating_mul(given.calls.div_ceil(DEFAULT_CALLS));
+    let until = start + Duration::from_secs(given.seconds.unwrap_or(in_proportion).min(MOST_SECONDS));
     let left = given.calls.div_ceil(given.seeds.len() as u64);
     for &seed in &given.seeds {
         let (table, tally) = (&mut table, &mut tally);
