@@ -1,6 +1,7 @@
-//! A call with its arguments as a value, the answers that it can give, and the call made on the reference.
+//! A call with its arguments as a value, the answers that it can give, its list of stores, and the call made on the
+//! reference.
 
-use crate::reference;
+use crate::reference::{self, Plan};
 
 /// A call and its arguments.
 #[derive(Clone, Copy, Debug)]
@@ -68,21 +69,43 @@ pub const NO_SUCH_CHOICE: u64 = 18;
 /// Answer, value, stores (for Stretch: answer, start, words; for Words: 0, words, 0).
 pub type Said = (u64, u64, u64);
 
+/// The whole plan of a call that document 01 has: a refusal's number, or the value and every store, in order.
+pub fn listed(call: Call, table: &[u64]) -> Plan {
+    match call {
+        Call::Words { .. } => no_stores(0),
+        Call::Check => no_stores(reference::check(table)),
+        Call::Stretch { node } => no_stores(reference::stretch(table, node).0),
+        Call::Format { nodes, items, frames } => reference::format_plan(table.len(), nodes, items, frames),
+        Call::Read { node, item } => reference::read_plan(table, node, item),
+        Call::Write { node, item, value } => reference::write_plan(table, node, item, value),
+        Call::Evict { node, item, place } => reference::evict_plan(table, node, item, place),
+        Call::Open => reference::open_plan(table),
+        Call::Create => reference::create_plan(table),
+        Call::Commit => reference::commit_plan(table),
+        Call::Abandon => reference::abandon_plan(table),
+        Call::Recover { none, .. } if none > 1 => Err(NO_SUCH_CHOICE),
+        Call::Recover { none, lost, scratch } => reference::recover_plan(table, (none == 0).then_some(lost), scratch),
+    }
+}
+
+/// A call that stores nothing: carried out, or refused with a number.
+fn no_stores(answer: u64) -> Plan {
+    match answer {
+        0 => Ok((0, Vec::new())),
+        refusal => Err(refusal),
+    }
+}
+
 pub fn on_reference(call: Call, table: &mut [u64], scratch: &mut [u64], limit: u64) -> Said {
-    let outcome = match call {
+    match call {
         Call::Words { nodes, items } => return (0, reference::words(nodes, items), 0),
-        Call::Check => return (reference::check(table), 0, 0),
         Call::Stretch { node } => return reference::stretch(table, node),
-        Call::Format { nodes, items, frames } => reference::format(table, nodes, items, frames, limit),
-        Call::Read { node, item } => reference::read(table, node, item, limit),
-        Call::Write { node, item, value } => reference::write(table, node, item, value, limit),
-        Call::Evict { node, item, place } => reference::evict(table, node, item, place, limit),
-        Call::Open => reference::open(table, limit),
-        Call::Create => reference::create(table, limit),
-        Call::Commit => reference::commit(table, limit),
-        Call::Abandon => reference::abandon(table, limit),
-        Call::Recover { none, .. } if none > 1 => return (NO_SUCH_CHOICE, 0, 0),
-        Call::Recover { none, lost, .. } => reference::recover(table, (none == 0).then_some(lost), scratch, limit),
-    };
+        _ => (),
+    }
+    let plan = listed(call, table);
+    if matches!(call, Call::Recover { .. }) && plan.is_ok() {
+        reference::clear_scratch(table, scratch);
+    }
+    let outcome = reference::carry_out(table, plan, limit);
     (outcome.answer, outcome.value, outcome.stores)
 }

@@ -3,6 +3,9 @@
 use crate::calls::{Call, Said};
 use crate::library;
 
+/// What the words of a scratch are before a call.
+pub const SCRATCH_WORD: u64 = 0x0123_4567_89ab_cdef;
+
 pub fn on_library(call: Call, table: &mut [u64], scratch: &mut [u64], limit: u64) -> Said {
     match call {
         Call::Words { nodes, items } => (0, library::words(nodes, items), 0),

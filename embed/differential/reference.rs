@@ -1,8 +1,8 @@
 //! The engine of document 01, told as plainly as it can be told, to compare other engines with.
 //!
-//! A call reads the lent table into a picture (marks and entries of the live nodes, decoded), turns
-//! the call down or makes its whole list of stores from that picture, and only then stores the first
-//! `limit` of them. Speed is no aim here.
+//! A call reads the lent table into a picture (marks and entries of the live nodes, decoded) and is
+//! turned down, or makes its whole list of stores from that picture: its plan. `carry_out` then stores
+//! the first `limit` of them. Speed is no aim here.
 
 /// What a call says: the answer's number (0 carried out, 17 nothing left to create, else a refusal),
 /// the value and the number of stores made.
@@ -444,7 +444,7 @@ fn checked_open(table: &[u64]) -> Result<Sound, u64> {
 pub type Plan = Result<(u64, Vec<(usize, u64)>), u64>;
 
 /// Makes the first `limit` stores of the plan.
-fn carry_out(table: &mut [u64], plan: Plan, limit: u64) -> Outcome {
+pub fn carry_out(table: &mut [u64], plan: Plan, limit: u64) -> Outcome {
     match plan {
         Err(answer) => Outcome { answer, value: 0, stores: 0 },
         Ok((value, stores)) => {
@@ -478,11 +478,6 @@ pub fn stretch(table: &[u64], node: u64) -> (u64, u64, u64) {
     }
 }
 
-pub fn format(table: &mut [u64], nodes: u64, items: u64, frames: u64, limit: u64) -> Outcome {
-    let plan = format_plan(table.len(), nodes, items, frames);
-    carry_out(table, plan, limit)
-}
-
 pub fn format_plan(length: usize, nodes: u64, items: u64, frames: u64) -> Plan {
     let geometry = Geometry::new(nodes, items, frames).ok_or(NO_GEOMETRY)?;
     if length < geometry.words() {
@@ -508,11 +503,6 @@ fn formatted(nodes: usize, node: usize, item: usize) -> Current {
     }
 }
 
-pub fn read(table: &mut [u64], node: u64, item: u64, limit: u64) -> Outcome {
-    let plan = read_plan(table, node, item);
-    carry_out(table, plan, limit)
-}
-
 fn serves(current: Current) -> bool {
     matches!(current, Current::SharedCk(Twin::First) | Current::Owner | Current::Modified)
 }
@@ -536,11 +526,6 @@ pub fn read_plan(table: &[u64], node: u64, item: u64) -> Plan {
     picture.store_current_value(node, item, value);
     picture.store_current(node, item, Current::Shared);
     Ok((value, picture.stores))
-}
-
-pub fn write(table: &mut [u64], node: u64, item: u64, new_value: u64, limit: u64) -> Outcome {
-    let plan = write_plan(table, node, item, new_value);
-    carry_out(table, plan, limit)
 }
 
 pub fn write_plan(table: &[u64], node: u64, item: u64, new_value: u64) -> Plan {
@@ -637,11 +622,6 @@ fn kept_goes_home(picture: &mut Picture, home: &Home, item: usize, twin: Twin, v
     picture.store_state(home.node, item, current, Some(twin));
 }
 
-pub fn evict(table: &mut [u64], node: u64, item: u64, place: u64, limit: u64) -> Outcome {
-    let plan = evict_plan(table, node, item, place);
-    carry_out(table, plan, limit)
-}
-
 /// `place`: 0 the current place, 1 the kept place; any other number is answered with 18.
 pub fn evict_plan(table: &[u64], node: u64, item: u64, place: u64) -> Plan {
     match place {
@@ -679,11 +659,6 @@ fn evict_kept_plan(table: &[u64], node: u64, item: u64) -> Plan {
     Ok((0, picture.stores))
 }
 
-pub fn open(table: &mut [u64], limit: u64) -> Outcome {
-    let plan = open_plan(table);
-    carry_out(table, plan, limit)
-}
-
 pub fn open_plan(table: &[u64]) -> Plan {
     let sound = checked(table)?;
     if sound.mark.phase == Phase::Creating {
@@ -703,11 +678,6 @@ fn mark_all(picture: &mut Picture, mark: Mark) {
     }
 }
 
-pub fn create(table: &mut [u64], limit: u64) -> Outcome {
-    let plan = create_plan(table);
-    carry_out(table, plan, limit)
-}
-
 pub fn create_plan(table: &[u64]) -> Plan {
     let sound = checked_open(table)?;
     let item = sound.kinds.iter().position(|kind| *kind == Kind::Dirty).ok_or(NOTHING_LEFT)?;
@@ -723,11 +693,6 @@ pub fn create_plan(table: &[u64]) -> Plan {
     picture.store_current(owner, item, Current::Precommit(Twin::First));
     current_goes_home(&mut picture, &partner, item, Current::Precommit(Twin::Second), value);
     Ok((0, picture.stores))
-}
-
-pub fn commit(table: &mut [u64], limit: u64) -> Outcome {
-    let plan = commit_plan(table);
-    carry_out(table, plan, limit)
 }
 
 pub fn commit_plan(table: &[u64]) -> Plan {
@@ -756,11 +721,6 @@ fn commit_entry(picture: &mut Picture, node: usize, item: usize) {
     }
 }
 
-pub fn abandon(table: &mut [u64], limit: u64) -> Outcome {
-    let plan = abandon_plan(table);
-    carry_out(table, plan, limit)
-}
-
 pub fn abandon_plan(table: &[u64]) -> Plan {
     let sound = checked_open(table)?;
     let mut picture = sound.picture;
@@ -785,13 +745,10 @@ enum Side {
     Forward,
 }
 
-pub fn recover(table: &mut [u64], lost: Option<u64>, scratch: &mut [u64], limit: u64) -> Outcome {
-    let plan = recover_plan(table, lost, scratch.len());
-    if plan.is_ok() {
-        let geometry = geometry_of(table).expect("an accepted table has a geometry");
-        scratch[..geometry.items + geometry.nodes].fill(0);
-    }
-    carry_out(table, plan, limit)
+/// What an accepted recovery does to its scratch.
+pub fn clear_scratch(table: &[u64], scratch: &mut [u64]) {
+    let geometry = geometry_of(table).expect("an accepted table has a geometry");
+    scratch[..geometry.items + geometry.nodes].fill(0);
 }
 
 pub fn recover_plan(table: &[u64], lost: Option<u64>, scratch_length: usize) -> Plan {

@@ -1,12 +1,11 @@
 //! One call, made on the library and on the reference, each with a table of its own.
 
 use crate::calls::{on_reference, Call, Said};
-use crate::on_library::on_library;
+use crate::on_library::{on_library, SCRATCH_WORD};
 
 /// Words before and after each lent slice, which no call may touch.
 const GUARD: usize = 4;
 const GUARD_WORD: u64 = 0x5afe_5afe_5afe_5afe;
-const SCRATCH_WORD: u64 = 0x0123_4567_89ab_cdef;
 
 /// A slice to lend, between guards.
 #[derive(Clone, PartialEq, Eq)]

@@ -3,7 +3,7 @@
 use crate::calls::Said;
 use crate::choices::WHOLE;
 use crate::lent::Lent;
-use crate::on_library::on_library;
+use crate::on_library::{on_library, SCRATCH_WORD};
 use crate::processes::{self, Child, End, From, Pages, PAGE_WORDS};
 use crate::random::Random;
 use crate::script::{Script, Step, MOST_CALLS};
@@ -69,7 +69,6 @@ pub struct Told {
 
 /// Room for what a recovery lends.
 const SCRATCH: usize = 16 + 256 + 64;
-const SCRATCH_WORD: u64 = 0x0123_4567_89ab_cdef;
 
 pub struct Children {
     board: *const Board,

@@ -14,8 +14,6 @@ mod calls;
 mod choices;
 #[path = "../differential/library.rs"]
 mod library;
-#[path = "../order/lists.rs"]
-mod lists;
 #[path = "../differential/on_library.rs"]
 mod on_library;
 #[path = "../differential/random.rs"]

@@ -44,19 +44,22 @@ static struct {
 static char handlers_stack[1 << 16];
 
 /* Memory of whole pages, zeroed; NULL where there is none. */
-void *processes_memory(size_t bytes, int shared) {
+void *processes_memory(size_t bytes, int shared)
+{
     int kind = shared ? MAP_SHARED : MAP_PRIVATE;
     void *memory = mmap(NULL, bytes, PROT_READ | PROT_WRITE, kind | MAP_ANONYMOUS, -1, 0);
     return memory == MAP_FAILED ? NULL : memory;
 }
 
-void processes_kill_self(void) {
+void processes_kill_self(void)
+{
     for (;;)
         kill(step.self, SIGKILL);
 }
 
 /* A timer kills this process so many nanoseconds from now; 0 if it is set. */
-int processes_kill_later(uint64_t nanoseconds) {
+int processes_kill_later(uint64_t nanoseconds)
+{
     struct sigevent event = {.sigev_notify = SIGEV_SIGNAL, .sigev_signo = SIGKILL};
     struct itimerspec time = {0};
     timer_t timer;
@@ -67,22 +70,31 @@ int processes_kill_later(uint64_t nanoseconds) {
     return timer_settime(timer, 0, &time, NULL);
 }
 
-void processes_await_kill(void) {
+void processes_await_kill(void)
+{
     for (;;)
         pause();
 }
 
-static void set_trap_flag(void *context, int on) {
+static void set_trap_flag(void *context, int on)
+{
     greg_t *flags = &((ucontext_t *)context)->uc_mcontext.gregs[REG_EFL];
     *flags = on ? *flags | TRAP_FLAG : *flags & ~(greg_t)TRAP_FLAG;
 }
 
-static void open_pages(void) { mprotect(step.start, step.bytes, PROT_READ | PROT_WRITE); }
+static void open_pages(void)
+{
+    mprotect(step.start, step.bytes, PROT_READ | PROT_WRITE);
+}
 
-static void close_pages(void) { mprotect(step.start, step.bytes, PROT_READ); }
+static void close_pages(void)
+{
+    mprotect(step.start, step.bytes, PROT_READ);
+}
 
 /* The context goes on with or without traps, as the count says. */
-static void go_on_counting(void *context) {
+static void go_on_counting(void *context)
+{
     if (step.counted < step.last) {
         set_trap_flag(context, 1);
         return;
@@ -93,7 +105,8 @@ static void go_on_counting(void *context) {
     set_trap_flag(context, 0);
 }
 
-static void on_fault(int number, siginfo_t *info, void *context) {
+static void on_fault(int number, siginfo_t *info, void *context)
+{
     char *at = info->si_addr;
     if (step.watch != CLOSED || at < step.start || at >= step.start + step.bytes) {
         signal(number, SIG_DFL); /* the fault is met again and ends the process */
@@ -110,7 +123,8 @@ static void on_fault(int number, siginfo_t *info, void *context) {
     go_on_counting(context);
 }
 
-static void on_trap(int number, siginfo_t *info, void *context) {
+static void on_trap(int number, siginfo_t *info, void *context)
+{
     (void)number, (void)info;
     if (step.watch == COUNTING) {
         step.counted++;
@@ -124,7 +138,8 @@ static void on_trap(int number, siginfo_t *info, void *context) {
     set_trap_flag(context, 0);
 }
 
-static void handle(int number, void (*handler)(int, siginfo_t *, void *)) {
+static void handle(int number, void (*handler)(int, siginfo_t *, void *))
+{
     struct sigaction action = {0};
     action.sa_sigaction = handler;
     action.sa_flags = SA_SIGINFO | SA_ONSTACK;
@@ -133,12 +148,14 @@ static void handle(int number, void (*handler)(int, siginfo_t *, void *)) {
 }
 
 /* This process ends after so many seconds at the latest. */
-void processes_end_after(unsigned seconds) {
+void processes_end_after(unsigned seconds)
+{
     signal(SIGALRM, SIG_DFL);
     alarm(seconds);
 }
 
-static void begin_as_child(pid_t parent, unsigned seconds) {
+static void begin_as_child(pid_t parent, unsigned seconds)
+{
     stack_t stack = {.ss_sp = handlers_stack, .ss_size = sizeof handlers_stack};
     prctl(PR_SET_PDEATHSIG, SIGKILL);
     if (getppid() != parent)
@@ -151,7 +168,8 @@ static void begin_as_child(pid_t parent, unsigned seconds) {
 }
 
 /* 0 in the child, which ends after so many seconds at the latest; in the parent its number, or -1. */
-int processes_fork(unsigned seconds) {
+int processes_fork(unsigned seconds)
+{
     pid_t parent = getpid();
     pid_t child = fork();
     if (child == 0)
@@ -159,17 +177,22 @@ int processes_fork(unsigned seconds) {
     return child;
 }
 
-void processes_kill(int child) { kill(child, SIGKILL); }
+void processes_kill(int child)
+{
+    kill(child, SIGKILL);
+}
 
 /* Waits for the child's end: the signal that ended it, 0 if it left by itself, -1 if it cannot be told. */
-int processes_end(int child) {
+int processes_end(int child)
+{
     int status;
     if (waitpid(child, &status, 0) != child)
         return -1;
     return WIFSIGNALED(status) ? WTERMSIG(status) : 0;
 }
 
-static void begin_counting(uint64_t last, int deadly) {
+static void begin_counting(uint64_t last, int deadly)
+{
     step.counted = 0;
     step.last = last;
     step.deadly = deadly;
@@ -179,7 +202,8 @@ static void begin_counting(uint64_t last, int deadly) {
  * Lets so many stores to the pages pass and counts instructions from the next one on. When `last` are counted, the
  * process is killed if that is asked for (0: before the store happens), or else the counting ends.
  */
-void processes_count_after(void *pages, size_t bytes, uint64_t passes, uint64_t last, int deadly) {
+void processes_count_after(void *pages, size_t bytes, uint64_t passes, uint64_t last, int deadly)
+{
     begin_counting(last, deadly);
     step.start = pages;
     step.bytes = bytes;
@@ -189,7 +213,8 @@ void processes_count_after(void *pages, size_t bytes, uint64_t passes, uint64_t 
 }
 
 /* Sets the trap flag of this process; 128 bytes under the stack pointer may be in use. */
-static void trap_from_here(void) {
+static void trap_from_here(void)
+{
     __asm__ volatile("leaq -128(%%rsp), %%rsp\n\t"
                      "pushfq\n\t"
                      "orq %0, (%%rsp)\n\t"
@@ -201,7 +226,8 @@ static void trap_from_here(void) {
 }
 
 /* The same, counting from here on. */
-void processes_count_from_here(uint64_t last, int deadly) {
+void processes_count_from_here(uint64_t last, int deadly)
+{
     begin_counting(last, deadly);
     step.bytes = 0;
     step.watch = COUNTING;
@@ -209,7 +235,8 @@ void processes_count_from_here(uint64_t last, int deadly) {
 }
 
 /* Ends the counting; the instructions counted. */
-uint64_t processes_stop_counting(void) {
+uint64_t processes_stop_counting(void)
+{
     step.watch = OFF;
     if (step.bytes > 0)
         open_pages();

@@ -1,9 +1,8 @@
 //! The calls that a child is to make, each with what it must say and store, by the reference.
 
-use crate::calls::{on_reference, Call, Said};
+use crate::calls::{listed, on_reference, Call, Said};
 use crate::choices;
 use crate::limits::{self, Store};
-use crate::lists;
 use crate::random::Random;
 use crate::tables::{self, Geometry};
 
@@ -16,7 +15,7 @@ pub struct Step {
 
 impl Step {
     fn of(call: Call, table: &[u64]) -> Step {
-        let (said, list) = match (call, lists::listed(call, table)) {
+        let (said, list) = match (call, listed(call, table)) {
             (Call::Words { .. } | Call::Check | Call::Stretch { .. }, _) => {
                 (on_reference(call, &mut table.to_vec(), &mut [], choices::WHOLE), Vec::new())
             }

@@ -3,7 +3,7 @@
 use crate::calls::{Call, Said};
 use crate::choices::{self, WHOLE};
 use crate::limits;
-use crate::on_library::on_library;
+use crate::on_library::{on_library, SCRATCH_WORD};
 use crate::restored;
 use crate::run::{Cut, Found, Run};
 use crate::script::{Script, Step};
@@ -16,7 +16,6 @@ struct Blow {
 }
 
 const TOO_FEW_SURVIVORS: u64 = 14;
-const SCRATCH_WORD: u64 = 0x0123_4567_89ab_cdef;
 
 impl Run<'_> {
     /// False if the table cannot be restored: a formatting was cut, or too few nodes are left.

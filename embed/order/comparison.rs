@@ -3,15 +3,12 @@
 use std::collections::BTreeMap;
 use std::time::Instant;
 
-use crate::calls::{on_reference, Call, Said, ANSWERS};
+use crate::calls::{listed, on_reference, Call, Said, ANSWERS};
 use crate::choices::WHOLE;
-use crate::lists;
-use crate::on_library::on_library;
+use crate::on_library::{on_library, SCRATCH_WORD};
 use crate::runs::Subject;
 use crate::tables::Geometry;
 use crate::watch::Watched;
-
-const SCRATCH_WORD: u64 = 0x0123_4567_89ab_cdef;
 
 /// The most items of a table, by class.
 pub const SIZES: [u64; 3] = [16, 64, 256];
@@ -75,7 +72,7 @@ impl Watch<'_> {
 
     /// One call, and what is wrong with it.
     fn watched(&mut self, call: Call, limit: u64, entry: &[u64]) -> Result<(), String> {
-        let listed = lists::listed(call, entry).map_or(Vec::new(), |(_, stores)| stores);
+        let listed = listed(call, entry).map_or(Vec::new(), |(_, stores)| stores);
         let listed: Vec<Store> = listed.into_iter().map(|(place, word)| (place as i64, word)).collect();
         let made = &listed[..limit.min(listed.len() as u64) as usize];
         let (expected, after) = by_reference(call, limit, entry);

@@ -22,7 +22,6 @@ mod comparison;
 mod instructions;
 #[path = "../differential/library.rs"]
 mod library;
-mod lists;
 #[path = "../differential/on_library.rs"]
 mod on_library;
 #[path = "../differential/random.rs"]

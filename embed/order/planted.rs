@@ -6,13 +6,12 @@
 #[path = "../differential/calls.rs"]
 #[allow(dead_code)]
 mod calls;
-mod lists;
 #[path = "../differential/reference.rs"]
 mod reference;
 
 use std::arch::x86_64::{__m128i, _mm_set_epi64x, _mm_storeu_si128};
 
-use calls::{on_reference, Call};
+use calls::{listed, on_reference, Call};
 
 /// A store: the place in the table, and the word.
 type Store = (usize, u64);
@@ -93,7 +92,7 @@ unsafe fn store_end_with_fault(fault: &str, table: *mut u64, [invalid, value, st
 /// The call on the caller's slices.
 unsafe fn carry_out(call: Call, table: (*mut u64, usize), scratch: (*mut u64, usize), limit: u64) -> (u64, u64, u64) {
     let mut copy = lent(table).to_vec();
-    let stores = lists::listed(call, &copy).map_or(Vec::new(), |(_, stores)| stores);
+    let stores = listed(call, &copy).map_or(Vec::new(), |(_, stores)| stores);
     let said = on_reference(call, &mut copy, lent(scratch), limit);
     if limit < PAST_EVERY_LIST {
         store_all(table.0, &stores[..stores.len().min(limit as usize)]);
