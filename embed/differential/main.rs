@@ -158,7 +158,8 @@ fn main() {
     println!("answers met, with the number of calls:");
     print_met(&tally);
     println!(
-        "{} calls, {} made just as many stores as their limit, {} recoveries rolled forward, seeds {seeds:?}, {:.1} s: {} differences",
+        "{} calls, {} made just as many stores as their limit, {} recoveries rolled forward, seeds {seeds:?}, {:.1} s: \
+         {} differences",
         tally.calls,
         tally.at_limit,
         tally.forward,

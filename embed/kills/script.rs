@@ -15,13 +15,9 @@ pub struct Step {
 
 impl Step {
     fn of(call: Call, table: &[u64]) -> Step {
-        let (said, list) = match (call, listed(call, table)) {
-            (Call::Words { .. } | Call::Check | Call::Stretch { .. }, _) => {
-                (on_reference(call, &mut table.to_vec(), &mut [], choices::WHOLE), Vec::new())
-            }
-            (_, Ok((value, list))) => ((0, value, list.len() as u64), list),
-            (_, Err(refusal)) => ((refusal, 0, 0), Vec::new()),
-        };
+        let scratch = &mut vec![0; call.scratch_length()];
+        let said = on_reference(call, &mut table.to_vec(), scratch, choices::WHOLE);
+        let list = listed(call, table).map_or(Vec::new(), |(_, stores)| stores);
         Step { call, said, list }
     }
 
