@@ -4,7 +4,7 @@ ghost use Prim.Native.Nat.{_<_};
 ghost use Rattle.table.specs.Stores.{Stored};
 ghost use Rattle.table.specs.View.{view};
 ghost use Rattle.table.specs.Answers.{Meets};
-ghost use Rattle.entries.specs.Dirty.{ownerOf, dirtyItem};
+ghost use Rattle.entries.specs.Dirty.{dirtyItem};
 ghost use Rattle.checkpoints.specs.Create.{createPlan, createOf};
 ghost use Rattle.checkpoints.specs.code.CreateCode.{itemPlan, sharerStores, takenStores};
 use entries::check::Surveyed;
@@ -53,7 +53,6 @@ fn bring_home(table: &mut [u64], left: u64, g: Geometry, item: u16, owner: u8, h
 
 // An item that has an owner is created: with a sharer, else at a home.
 fn create_item(table: &mut [u64], limit: u64, g: Geometry, item: u16) -> Answer
-    requires { ⌜ ownerOf g (view g (now table)) item < g .nodes ⌝ }
     ensures { λ r. ⌜ Meets (itemPlan g (view g (now (table .entry))) item) limit (now (table .entry)) (now (table .exit)) r ⌝ }
 {
     let owner = homes::holders::first_holder(table, g, item, words::OWNER, words::MODIFIED);

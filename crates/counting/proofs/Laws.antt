@@ -3,6 +3,7 @@ pub mod Tests
 pub mod Differences
 pub mod Counting
 pub mod First
+pub mod Cyclic
 pub mod Values
 pub mod Exists
 pub mod Ranks

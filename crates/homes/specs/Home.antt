@@ -1,5 +1,5 @@
 -- "Home of a copy leaving node n: the first live node after n, cyclically, n excluded, that fits."
-use Prim.Native.Nat.{ℕ, _+_, _-_}
+use Prim.Native.Nat.{ℕ}
 use mathlib.Core.Bool.{Bool, cond, _&&_, _||_}
 use mathlib.Core.List.{List, [], _∷_, _++_, map}
 use lib.Dec.{eqb, ltb}
@@ -8,6 +8,7 @@ use Rattle.table.specs.Words.{keptOf, invalid, shared}
 use Rattle.table.specs.Stores.{Store, Change, entryStore, stateTo, valueTo, keptTo}
 use Rattle.table.specs.View.{Entry, View, current, kept, live}
 use Rattle.counting.specs.Counting.{first}
+use Rattle.counting.specs.Cyclic.{firstAfter}
 use Rattle.entries.specs.Frames.{frameFree}
 use Rattle.homes.specs.declared.places.Place.{Place}
 use Rattle.homes.specs.declared.places.Place.the-variants.{Current, Kept}
@@ -38,25 +39,9 @@ fits g v place b h = live v h && placeFits g v place b h
 
 -- ---- the first that fits
 
--- the node i + 1 steps after n, cyclically; for i = N − 1 it is n again
-unfoldable pub nodeAfter : Geometry → ℕ → ℕ → ℕ
-nodeAfter g n i = cond (ltb (n + 1 + i) (g .nodes)) (n + 1 + i) (n + 1 + i - g .nodes)
-
--- the test of the node i + 1 steps after n
-unfoldable pub fitsAfter : Geometry → View → Place → ℕ → ℕ → ℕ → Bool
-fitsAfter g v place n b i = fits g v place b (nodeAfter g n i)
-
--- how many nodes after n are passed over; N − 1, all of them, if none fits
-unfoldable pub passedOver : Geometry → View → Place → ℕ → ℕ → ℕ
-passedOver g v place n b = first (fitsAfter g v place n b) (g .nodes - 1)
-
--- "the first live node after n, cyclically, n excluded, that fits"; n itself if there is none
+-- "the first live node after n, cyclically, n excluded, that fits"; n itself if there is none, or if n is no node
 unfoldable pub homeOf : Geometry → View → Place → ℕ → ℕ → ℕ
-homeOf g v place n b = nodeAfter g n (passedOver g v place n b)
-
--- from any number: one that is no node's has no home, which is the number itself
-unfoldable pub homeFrom : Geometry → View → Place → ℕ → ℕ → ℕ
-homeFrom g v place n b = cond (ltb n (g .nodes)) (homeOf g v place n b) n
+homeOf g v place n b = firstAfter (fits g v place b) (g .nodes) n
 
 -- "11 no home"
 abbrev pub noHome : Geometry → View → Place → ℕ → ℕ → Bool

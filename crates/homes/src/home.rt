@@ -1,10 +1,9 @@
 // The home of a copy that leaves a node, and what is stored there.
 ghost use mathlib.Core.Path.{_≡_};
-ghost use Prim.Native.Nat.{_<_};
 ghost use Rattle.table.specs.Stores.{Stored, StoredIn};
 ghost use Rattle.table.specs.View.{view};
-ghost use Rattle.homes.specs.Home.{sharedItem, hasRoom, placeFits, fits, homeFrom, droppedItem, currentLeft, arrivalOf, dropStores, arrivalChanges, homeStoresBy};
-ghost use Rattle.homes.specs.code.HomeCode.{nextNode};
+ghost use Rattle.homes.specs.Home.{sharedItem, hasRoom, placeFits, fits, homeOf, droppedItem, currentLeft, arrivalOf, dropStores, arrivalChanges, homeStoresBy};
+use counting::cyclic;
 use crate::places::Place;
 use table::geometry::Geometry;
 use table::words::INVALID;
@@ -77,38 +76,22 @@ fn can_take(table: &[u64], g: Geometry, place: Place, h: u8, item: u16) -> bool
     place_fits(table, g, place, h, item)
 }
 
-// The next node, cyclically.
-fn next_node(nodes: u8, n: u8) -> u8
-    requires { ⌜ n < nodes ⌝ }
-    ensures { λ r. ⌜ r ≡ nextNode nodes n ⌝ }
-{
-    if n + 1 == nodes {
-        return 0;
-    }
-    n + 1
-}
-
 // The first live node after `node`, cyclically, that can take the copy; `node` itself if there is none, or if it is no
 // node of the table.
 pub fn home_of(table: &[u64], g: Geometry, place: Place, node: u8, item: u16) -> u8
-    ensures { λ r. ⌜ r ≡ homeFrom g (view g (now (table .entry))) place node item ⌝ }
+    ensures { λ r. ⌜ r ≡ homeOf g (view g (now (table .entry))) place node item ⌝ }
 {
     let nodes = g.nodes;
-    if nodes <= node {
-        return node;
-    }
-    let others = nodes - 1;
-    let mut h = next_node(nodes, node);
-    let mut passed: u8 = 0;
-    while passed < others {
+    let mut cursor = cyclic::after(nodes, node);
+    while 0 < cursor.untried {
+        let h = cursor.node;
         let found = can_take(table, g, place, h, item);
         if found {
             return h;
         }
-        h = next_node(nodes, h);
-        passed += 1;
+        cursor = cyclic::step(nodes, cursor);
     }
-    h
+    node
 }
 
 // The item whose Shared copy a home drops, or the number of items if it has a frame.

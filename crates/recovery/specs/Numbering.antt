@@ -5,6 +5,7 @@ use mathlib.Core.Bool.{not, cond, _&&_, Bool}
 use mathlib.Core.List.{List, [], _∷_, _++_, map}
 use lib.Dec.{eqb}
 use Rattle.counting.specs.Counting.{count, first}
+use Rattle.counting.specs.Cyclic.{firstAfter}
 use Rattle.table.specs.declared.geometry.Geometry.{Geometry}
 use Rattle.table.specs.Words.{invalid, sharedCK}
 use Rattle.table.specs.Changes.{checkpointOf}
@@ -13,7 +14,6 @@ use Rattle.table.specs.View.{View, live, current, Entry, updates, pass}
 use Rattle.entries.specs.Tally.{has, copy}
 use Rattle.recovery.specs.Sides.{settled}
 use Rattle.entries.specs.Frames.{frameFree}
-use Rattle.homes.specs.Home.{nodeAfter}
 
 -- how many live nodes below n hold item b as the Shared-CK of this number
 unfoldable pub holders : View → ℕ → ℕ → ℕ → ℕ
@@ -52,13 +52,9 @@ holderOf g w b = first (copy w b) (g .nodes)
 unfoldable pub takes : Geometry → View → ℕ → ℕ → Bool
 takes g w b n = live w n && (eqb (current (w .entry n b)) invalid && frameFree g w n b)
 
--- the test of the node i + 1 steps after n
-unfoldable pub takesAfter : Geometry → View → ℕ → ℕ → ℕ → Bool
-takesAfter g w b n i = takes g w b (nodeAfter g n i)
-
 -- "from its node, the first live node after it" that can; the node itself if none can
 unfoldable pub partnerOf : Geometry → View → ℕ → ℕ → ℕ
-partnerOf g w b n = nodeAfter g n (first (takesAfter g w b n) (g .nodes - 1))
+partnerOf g w b n = firstAfter (takes g w b) (g .nodes) n
 
 -- "takes the absent number .. (value, state)": the partner of the copy in entry e
 unfoldable pub partnerChanges : Entry → List Change

@@ -7,13 +7,13 @@ ghost use Rattle.table.specs.Stores.{StoredIn};
 ghost use Rattle.table.specs.View.{view};
 ghost use Rattle.table.specs.Words.{currentOf, sharedCK};
 ghost use Rattle.table.specs.Changes.{checkpointOf};
-ghost use Rattle.homes.specs.Home.{nodeAfter};
 ghost use Rattle.survivors.specs.Survivors.{survivors};
 ghost use Rattle.recovery.specs.Numbering.{partnerChanges, partnerFrom, partnerStores, partnersStores};
 ghost use Rattle.recovery.specs.code.Rows.{HasEntry};
 ghost use Rattle.recovery.specs.code.PartnersCode.{usedWith, takesBy, Found, UsedBy, Filled, FilledFrom, Ready, Turned, Single, Passable, Settles};
 use crate::rows;
 use crate::tallies;
+use counting::cyclic;
 use entries::frames;
 use survivors::lost::Lost;
 use survivors::nodes;
@@ -74,33 +74,20 @@ fn can_take(table: &[u64], g: Geometry, lost: Lost, scratch: &[u64], item: u16, 
     (current == words::INVALID) & (used < frames)
 }
 
-// The node so many steps and one after a node, cyclically.
-fn node_after(g: Geometry, node: u8, passed: u8) -> u8
-    requires { ⌜ (node < g .nodes) × (passed < g .nodes) ⌝ }
-    ensures { λ r. ⌜ r ≡ nodeAfter g node passed ⌝ }
-{
-    let nodes = g.nodes as u16;
-    let to = node as u16 + 1 + passed as u16;
-    if to < nodes {
-        return to as u8;
-    }
-    (to - nodes) as u8
-}
-
 // The first node after a copy's node, cyclically, that can take its partner; the copy's node itself if none can.
 fn partner_of(table: &[u64], g: Geometry, lost: Lost, scratch: &[u64], item: u16, node: u8) -> u8
     requires { ⌜ HasEntry g (now table) node item ⌝ }
     ensures { λ r. ⌜ Found g (survivors lost (view g (now (table .entry)))) (now (scratch .entry)) item node r ⌝ }
 {
-    let others = g.nodes - 1;
-    let mut passed: u8 = 0;
-    while passed < others {
-        let h = node_after(g, node, passed);
+    let nodes = g.nodes;
+    let mut cursor = cyclic::after(nodes, node);
+    while 0 < cursor.untried {
+        let h = cursor.node;
         let found = can_take(table, g, lost, scratch, item, h);
         if found {
             return h;
         }
-        passed += 1;
+        cursor = cyclic::step(nodes, cursor);
     }
     node
 }

@@ -21,8 +21,7 @@ use Rattle.homes.proofs.Laws.Plans.{meets-as}
 use Rattle.homes.specs.declared.places.Place.the-variants.{Current}
 use Rattle.homes.specs.declared.home.Arrival.{Arrival}
 use Rattle.entries.specs.Dirty.{ownerOf, dirty, dirtyItem}
-use Rattle.homes.specs.Home.{homeOf, homeFrom, arrivalOf, homeStores, homeStoresBy}
-use Rattle.homes.proofs.Laws.HomeCode.{home-there}
+use Rattle.homes.specs.Home.{homeOf, arrivalOf, homeStores, homeStoresBy}
 use Rattle.homes.specs.Holders.{firstHolder}
 use Rattle.homes.proofs.Laws.Holders.{holder-first, owner-held}
 use Rattle.checkpoints.specs.Create.{sharesAt, sharerOf, precommit2Stores, createItem, noPartner, createPlan}
@@ -83,7 +82,7 @@ module _ (g : Geometry) (b o : ℕ) {w k left left₁ left₂ : ℕ} {t t₁ t�
 
 -- ---- its plan
 
-module _ (g : Geometry) (v : View) (b : ℕ) (owned : ownerOf g v b < g .nodes) {o s : ℕ}
+module _ (g : Geometry) (v : View) (b : ℕ) {o s : ℕ}
     (held : o ≡ firstHolder g v b owner modified) (shares : s ≡ firstHolder g v b shared shared) where
   p : o ≡ ownerOf g v b
   p = held ∙ owner-held g v b
@@ -95,10 +94,7 @@ module _ (g : Geometry) (v : View) (b : ℕ) (owned : ownerOf g v b < g .nodes) 
   unfolding itemPlan noPartner createItem precommit2Stores sharerStores
   item-shared l = rw (← p, ← q, lt-ltb s (g .nodes) l) refl
 
-  module _ (l : g .nodes ≤ s) {h : ℕ} (found : h ≡ homeFrom g v Current o b) where
-    r : h ≡ homeOf g v Current o b
-    r = found ∙ home-there g v Current o b (rw p owned)
-
+  module _ (l : g .nodes ≤ s) {h : ℕ} (r : h ≡ homeOf g v Current o b) where
     pub item-none : h ≡ o → itemPlan g v b ≡ refuse NoHome
     unfolding itemPlan noPartner
     item-none e = rw (← p, ← q, le-ltb s (g .nodes) l, ← r, eq-eqb h o e) refl

@@ -103,11 +103,11 @@ module _ (g : Geometry) (v : View) (b : ℕ) where
     place : current (v .entry h b) ≡ invalid
     room : hasRoom g v h b ≡ true
 
-  home-tells : ownerOf g v b < g .nodes → noPartner g v b ≡ false → hasSharer g v b ≡ false → Taking (homeOf g v Current (ownerOf g v b) b)
+  home-tells : noPartner g v b ≡ false → hasSharer g v b ≡ false → Taking (homeOf g v Current (ownerOf g v b) b)
   unfolding noPartner fits placeFits
-  home-tells l e q =
+  home-tells e q =
       let h : ℕ = homeOf g v Current (ownerOf g v b) b in
-      let f = home-fits g v Current (ownerOf g v b) b l (and-no-right (not (hasSharer g v b)) (rw q refl) e) in
+      let f = home-fits g v Current (ownerOf g v b) b (and-no-right (not (hasSharer g v b)) (rw q refl) e) in
       let n : Live g v h = test-live g v h (f .there) (f .alive) in
       let t = both (live v h) (f .takes) .1 in
       let p = both (eqb (current (v .entry h b)) invalid) (other-holds (eqb (current (v .entry h b)) shared) t (none-shares q h n)) in
@@ -145,7 +145,7 @@ module _ (g : Geometry) (v : View) (phase number : ℕ) (good : SoundTable g v p
       (λ q. let s = sharer-tells g v b q in
       rw q (sharer-via g v phase number b (ownerOf g v b) good some (owning .node) (owning .owned) (sharerOf g v b) (s .node) (s .place)
       (agrees (sharerOf g v b) (s .node) (s .place))))
-      (λ q. let t = home-tells g v b owner-there partnered q in
+      (λ q. let t = home-tells g v b partnered q in
       rw q (taken-via g v phase number b (ownerOf g v b) good some (owning .node) (owning .owned) (homeOf g v Current (ownerOf g v b) b)
       (t .node) (t .other) (t .place) (t .room)))
 
@@ -166,7 +166,7 @@ module _ (g : Geometry) (v : View) (phase number : ℕ) (good : SoundTable g v p
         drops = λ (m : g .items < g .items). absurd (omega arith);
         apart = λ (e : g .items ≡ b). omega arith;
       }))
-      (λ q. let t = home-tells g v b owner-there partnered q in
+      (λ q. let t = home-tells g v b partnered q in
       rw q (record {
         item = some;
         owner = owning .node;

@@ -94,11 +94,11 @@ module _ (g : Geometry) (v : View) (e : ℕ → ℕ → Entry) (s : Agrees g v e
   unfolding noPartner
   same-partner b = rw (same-sharer b, same-owner g v e s b, same-home g v e s Current (ownerOf g v b) b) refl
 
-  create-item : (b o : ℕ) → o < g .nodes → live v o ≡ true → createItem g (over v e) b o ≡ createItem g v b o
+  create-item : (b o : ℕ) → live v o ≡ true → createItem g (over v e) b o ≡ createItem g v b o
   unfolding createItem precommit2Stores
-  create-item b o there t =
+  create-item b o t =
       let h = homeOf g v Current o b in
-      let k = home-live g v Current o b there t in
+      let k = home-live g v Current o b t in
       let stores = same-home-stores g v e s h k Current b precommit2 (v .entry o b .value) in
       rw (s .alive o b t, same-sharer b, same-shares b, same-home g v e s Current o b, stores) refl
 
@@ -108,7 +108,7 @@ module _ (g : Geometry) (v : View) (e : ℕ → ℕ → Entry) (s : Agrees g v e
       let b = dirtyItem g v in
       by-cases (noneDirty g v) (λ q. rw (same-dirty g v e s, q) refl)
       (λ q. let o = next-owned g v refl (ltb-true b (g .items) (not-false _ q)) in
-      let item = create-item b (ownerOf g v b) o (owner-live b o) in
+      let item = create-item b (ownerOf g v b) (owner-live b o) in
       rw (same-dirty g v e s, q, same-partner b, same-owner g v e s b, item) refl)
 
 pub open-alike : {t t′ : List ℕ} → Alike t t′ → openOf t′ ≡ openOf t

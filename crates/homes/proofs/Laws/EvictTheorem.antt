@@ -91,8 +91,8 @@ module _ (t : List ℕ) (n b : ℕ) (place : Place) {g : Geometry} {value : ℕ}
 
   module _ (goes : dropped place (view g t .entry n b) ≡ false) where
     -- where it goes: another node, live, that can take it
-    pub evict-home : Home g (view g t) place n b (admits .node) (homeOf g (view g t) place n b)
-    evict-home = home-fits g (view g t) place n b (admits .node) (leaving .homed goes)
+    pub evict-home : Home g (view g t) place n b (homeOf g (view g t) place n b)
+    evict-home = home-fits g (view g t) place n b (leaving .homed goes)
 
     -- any other copy: after any number of its stores
     pub evict-moves-keeps : (limit : ℕ) → Moving g n (homeOf g (view g t) place n b) b (view g t) (view g (after g limit ss t))

@@ -4,15 +4,13 @@ use mathlib.Core.Path.{_≡_, refl, sym, ap, _∙_}
 use mathlib.Core.Bool.{Bool, true, false, cond, _&&_, _||_}
 use mathlib.Core.List.{List, [], _∷_, _++_, map}
 use native.Mathlib.Omega.{arith}
-use native.Mathlib.Decide.{ℕ-discrete}
 use lib.Dec.{eqb, ltb}
-use borrow.Author.Tests.{eq-eqb, ne-eqb, lt-ltb, le-ltb, ltb-true, ltb-false}
+use borrow.Author.Tests.{eq-eqb, ne-eqb}
 use Rattle.table.specs.declared.geometry.Geometry.{Geometry}
 use Rattle.table.specs.Words.{currentOf, keptOf, invalid, shared}
 use Rattle.table.specs.Stores.{Stored, StoredIn, entryStore, stateTo, valueTo, keptTo}
 use Rattle.table.proofs.Laws.Stores.{stored-then, stored-two, stored-as}
 use Rattle.table.specs.View.{View}
-use Rattle.counting.proofs.Laws.Tests.{by-cases}
 use Rattle.counting.specs.Counting.{first}
 use Rattle.counting.proofs.Laws.First.{first-turns, first-found}
 use Rattle.entries.specs.Frames.{frameFree}
@@ -20,8 +18,7 @@ use Rattle.homes.specs.declared.places.Place.{Place}
 use Rattle.homes.specs.declared.places.Place.the-variants.{Current, Kept}
 use Rattle.homes.specs.declared.home.Arrival.{Arrival}
 use Rattle.homes.specs.Places.{codeOf, sharedIn}
-use Rattle.homes.specs.Home.{sharedAt, sharedItem, hasRoom, placeFits, fits, nodeAfter, fitsAfter, passedOver, homeOf, homeFrom, droppedItem, currentLeft, arrivalOf, dropStores, arrivalChanges, takeoverStores, homeStoresBy}
-use Rattle.homes.specs.code.HomeCode.{nextNode}
+use Rattle.homes.specs.Home.{sharedAt, sharedItem, hasRoom, placeFits, fits, droppedItem, currentLeft, arrivalOf, dropStores, arrivalChanges, takeoverStores, homeStoresBy}
 
 -- ---- the lowest Shared copy
 
@@ -86,96 +83,6 @@ module _ (g : Geometry) (v : View) (place : Place) (b h : ℕ) {mark : ℕ} (p :
   pub fits-live : (mark ≡ 0 → ⊥) → {r : Bool} → r ≡ placeFits g v place b h → r ≡ fits g v place b h
   unfolding fits
   fits-live e q = rw (← p, ne-eqb mark 0 e) q
-
--- ---- the nodes after n, one by one
-
-module _ (N n : ℕ) where
-  pub next-wraps : n + 1 ≡ N → 0 ≡ nextNode N n
-  unfolding nextNode
-  next-wraps e = rw (eq-eqb (n + 1) N e) refl
-
-  pub next-follows : (n + 1 ≡ N → ⊥) → n + 1 ≡ nextNode N n
-  unfolding nextNode
-  next-follows e = rw (ne-eqb (n + 1) N e) refl
-
-module _ (g : Geometry) (n : ℕ) where
-  pub after-straight : (i : ℕ) → n + 1 + i < g .nodes → nodeAfter g n i ≡ n + 1 + i
-  unfolding nodeAfter
-  after-straight i l = rw (lt-ltb (n + 1 + i) (g .nodes) l) refl
-
-  pub after-round : (i : ℕ) → g .nodes ≤ n + 1 + i → nodeAfter g n i ≡ n + 1 + i - g .nodes
-  unfolding nodeAfter
-  after-round i l = rw (le-ltb (n + 1 + i) (g .nodes) l) refl
-
-  pub after-below : n < g .nodes → (i : ℕ) → i < g .nodes → nodeAfter g n i < g .nodes
-  after-below h i l =
-      by-cases (ltb (n + 1 + i) (g .nodes))
-      (λ e. let k = ltb-true _ _ e in rw (after-straight i k) k)
-      (λ e. let k = ltb-false _ _ e in rw (after-round i k) (omega arith))
-
-  -- the step from the node i + 1 steps after n gives the next one
-  pub after-steps : n < g .nodes → (i : ℕ) → i + 1 < g .nodes → nextNode (g .nodes) (nodeAfter g n i) ≡ nodeAfter g n (i + 1)
-  after-steps h i l =
-      by-cases (ltb (n + 1 + i) (g .nodes))
-      (λ e. let k = ltb-true _ _ e in rw (after-straight i k) (straight k))
-      (λ e. let k = ltb-false _ _ e in rw (after-round i k, after-round (i + 1) (omega arith)) (sym (next-follows (g .nodes) (n + 1 + i - g .nodes) (omega arith)) ∙ omega arith))
-    where
-      straight : n + 1 + i < g .nodes → nextNode (g .nodes) (n + 1 + i) ≡ nodeAfter g n (i + 1)
-      straight k =
-          elim (ℕ-discrete (n + 1 + i + 1) (g .nodes)) [
-            | yes e ↦ sym (next-wraps (g .nodes) (n + 1 + i) e) ∙ sym (after-round (i + 1) (omega arith) ∙ omega arith)
-            | no e ↦ sym (next-follows (g .nodes) (n + 1 + i) e) ∙ sym (after-straight (i + 1) (omega arith) ∙ omega arith)
-          ]
-
-  -- the first step
-  pub after-starts : n < g .nodes → nextNode (g .nodes) n ≡ nodeAfter g n 0
-  after-starts h =
-      elim (ℕ-discrete (n + 1) (g .nodes)) [
-        | yes e ↦ sym (next-wraps (g .nodes) n e) ∙ sym (after-round 0 (omega arith) ∙ omega arith)
-        | no e ↦ sym (next-follows (g .nodes) n e) ∙ sym (after-straight 0 (omega arith) ∙ omega arith)
-      ]
-
-  -- the node that the search has come to, and the next
-  module _ (l : n < g .nodes) {i h : ℕ} (k : i < g .nodes - 1) (p : h ≡ nodeAfter g n i) where
-    pub search-there : h < g .nodes
-    search-there = rw p (after-below l i (omega arith))
-
-    pub search-steps : {m : ℕ} → m ≡ nextNode (g .nodes) h → m ≡ nodeAfter g n (i + 1)
-    search-steps q = q ∙ ap (nextNode (g .nodes)) p ∙ after-steps l i (omega arith)
-
--- ---- the search
-
-module _ (g : Geometry) (v : View) (place : Place) (n b : ℕ) where
-  pub home-outside : g .nodes ≤ n → n ≡ homeFrom g v place n b
-  unfolding homeFrom
-  home-outside h = rw (le-ltb n (g .nodes) h) refl
-
-  -- of a node of the table
-  pub home-there : n < g .nodes → homeFrom g v place n b ≡ homeOf g v place n b
-  unfolding homeFrom
-  home-there h = rw (lt-ltb n (g .nodes) h) refl
-
-module _ (g : Geometry) (v : View) (place : Place) (n b i : ℕ) (there : n < g .nodes)
-    (none : first (fitsAfter g v place n b) i ≡ i) {h : ℕ} (p : h ≡ nodeAfter g n i) where
-  module _ {found : Bool} (q : found ≡ fits g v place b h) where
-    test : {r : Bool} → found ≡ r → fitsAfter g v place n b i ≡ r
-    unfolding fitsAfter
-    test e = sym (q ∙ ap (fits g v place b) p) ∙ e
-
-    pub home-found : i < g .nodes - 1 → found ≡ true → h ≡ homeFrom g v place n b
-    unfolding homeOf passedOver
-    home-found l e =
-        p ∙ ap (nodeAfter g n) (sym (first-found (fitsAfter g v place n b) i (g .nodes - 1) none (test e) l))
-        ∙ sym (home-there g v place n b there)
-
-    pub home-on : found ≡ false → first (fitsAfter g v place n b) (i + 1) ≡ i + 1
-    home-on e = first-turns (fitsAfter g v place n b) i none (test e)
-
-  pub home-ends : i ≤ g .nodes - 1 → g .nodes - 1 ≤ i → h ≡ homeFrom g v place n b
-  unfolding homeOf passedOver
-  home-ends k l =
-      let e : i ≡ g .nodes - 1 = omega arith in
-      p ∙ ap (nodeAfter g n) (e ∙ sym (rw e at none)) ∙ sym (home-there g v place n b there)
 
 -- ---- what a home makes of a copy that comes
 

@@ -1,6 +1,6 @@
 -- "A dead node's words, mark apart, are never read", by Evict: its home, its refusals and its stores do not rest on
 -- them; and the plan of a call does not if what it admits and what it does do not.
-use Prim.Native.Nat.{ℕ, _-_, _<_}
+use Prim.Native.Nat.{ℕ, _-_}
 use mathlib.Core.Path.{_≡_, refl, ap, ap₂, _∙_}
 use mathlib.Core.Bool.{Bool, true, cond, not, _&&_, _||_}
 use mathlib.Core.List.{List}
@@ -8,6 +8,7 @@ use lib.Dec.{eqb, ltb}
 use borrow.Author.Tests.{eqb-true, ne-eqb}
 use Rattle.counting.proofs.Laws.Tests.{and-same, by-cases}
 use Rattle.counting.proofs.Laws.First.{first-ext}
+use Rattle.counting.proofs.Laws.Cyclic.{first-after-ext}
 use Rattle.table.specs.declared.geometry.Geometry.{Geometry}
 use Rattle.table.specs.declared.answers.Refusal.the-variants.{NoFrame}
 use Rattle.table.specs.Words.{shared}
@@ -24,7 +25,7 @@ use Rattle.homes.specs.declared.places.Place.{Place}
 use Rattle.homes.specs.declared.places.Place.the-variants.{Current, Kept}
 use Rattle.homes.specs.Admission.{admissionOf, frameFull, frameAdmission, planAdmitted, planChecked, planBy}
 use Rattle.homes.proofs.Laws.Admission.{Admits, admission-tells}
-use Rattle.homes.specs.Home.{sharedAt, sharedItem, hasRoom, placeFits, fits, nodeAfter, fitsAfter, passedOver, homeOf, noHome, droppedItem, arrivalOf, homeStoresBy, homeStores}
+use Rattle.homes.specs.Home.{sharedAt, sharedItem, hasRoom, placeFits, fits, homeOf, noHome, droppedItem, arrivalOf, homeStoresBy, homeStores}
 use Rattle.homes.proofs.Laws.HomeLaws.{home-fits}
 use Rattle.homes.specs.Places.{codeIn, valueIn}
 use Rattle.homes.proofs.Laws.EvictCode.{evict-admits}
@@ -95,17 +96,16 @@ module _ (g : Geometry) (v : View) (e : ℕ → ℕ → Entry) (s : Agrees g v e
       and-same (live v h) (placeFits g (over v e) place b h) (placeFits g v place b h) (λ t. same-place h t place b)
 
   pub same-home : (place : Place) (n b : ℕ) → homeOf g (over v e) place n b ≡ homeOf g v place n b
-  unfolding homeOf passedOver fitsAfter
-  same-home place n b = ap (nodeAfter g n) (first-ext (g .nodes - 1) _ _ (λ i l. same-fits place b (nodeAfter g n i)))
+  unfolding homeOf
+  same-home place n b = first-after-ext _ _ (g .nodes) n (λ m l. same-fits place b m)
 
 -- the home of a live node's copy is live, or it is the node itself
 pub home-live :
-    (g : Geometry) (v : View) (place : Place) (n b : ℕ) → n < g .nodes → live v n ≡ true
-    → live v (homeOf g v place n b) ≡ true
-home-live g v place n b there t =
+    (g : Geometry) (v : View) (place : Place) (n b : ℕ) → live v n ≡ true → live v (homeOf g v place n b) ≡ true
+home-live g v place n b t =
     by-cases (noHome g v place n b)
     (λ q. ap (live v) (eqb-true (homeOf g v place n b) n q) ∙ t)
-    (λ q. home-fits g v place n b there q .alive)
+    (λ q. home-fits g v place n b q .alive)
 
 -- ---- Evict
 
@@ -124,7 +124,7 @@ module _ (g : Geometry) (v : View) (e : ℕ → ℕ → Entry) (s : Agrees g v e
   evict-stores a =
       let t = admits-live g v n b a in
       let h = homeOf g v place n b in
-      let k = home-live g v place n b (a .node) t in
+      let k = home-live g v place n b t in
       let x = v .entry n b in
       let stores = same-home-stores g v e s h k place b (codeIn place x) (valueIn place x) in
       rw (s .alive n b t, same-home g v e s place n b, stores) refl

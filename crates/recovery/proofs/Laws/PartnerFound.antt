@@ -1,17 +1,16 @@
 -- A single copy finds its partner: with k survivors, (k − 1) × F ≥ 2 × M − 1, while one copy is single all copies together are at most 2 × M − 1,
 -- and the copy's own node holds one of them.
 use Prim.Native.Nat.{ℕ, _+_, _-_, _*_, _≤_, _<_}
-use mathlib.Core.Path.{_≡_, refl, sym, ap, _∙_, subst}
+use mathlib.Core.Path.{_≡_, refl, sym, ap, subst}
 use mathlib.Core.Logic.{_⊎_, inl, inr, _≢_}
 use mathlib.Core.Bool.{Bool, true, false, not, cond, _||_}
 use native.Mathlib.Omega.{arith}
-use native.Mathlib.Decide.{decLt}
 use lib.Dec.{eqb, ltb}
 use borrow.Author.Tests.{eqb-true, eq-eqb, ltb-true, ltb-false}
 use Rattle.counting.proofs.Laws.Tests.{both, no-both, by-cases, or-left, or-right, and-no-right}
 use Rattle.counting.specs.Counting.{one, sum, count, first}
 use Rattle.counting.proofs.Laws.Counting.{sum-ext, Only, only-counts, sum-swap, sum-count}
-use Rattle.counting.proofs.Laws.First.{first-least, first-passes}
+use Rattle.counting.proofs.Laws.Cyclic.{after-found, after-none}
 use Rattle.table.specs.declared.geometry.Geometry.{Geometry}
 use Rattle.table.specs.Words.{invalid, sharedCK1, sharedCK2}
 use Rattle.table.proofs.Laws.Changes.{checkpoint-code}
@@ -21,11 +20,9 @@ use Rattle.entries.specs.Tally.{has, copy}
 use Rattle.entries.proofs.Laws.Kinds.{copy-code, copy-live, no-copy}
 use Rattle.entries.proofs.Laws.Codes.{two-codes, all-codes}
 use Rattle.homes.proofs.Laws.Kept.{Live, live-test, test-live}
-use Rattle.homes.proofs.Laws.HomeCode.{after-below}
-use Rattle.homes.proofs.Laws.HomeLaws.{after-other, after-reaches}
 use Rattle.counting.proofs.Laws.Crowded.{sum-at, sum-fewer, crowded}
 use Rattle.survivors.specs.Survivors.{survivorCount, tooFewWith, tooFew}
-use Rattle.recovery.specs.Numbering.{takes, takesAfter, partnerOf}
+use Rattle.recovery.specs.Numbering.{takes, partnerOf}
 use Rattle.recovery.proofs.Laws.Ready.{Plain, Paired, Numbered, pair, alone}
 
 -- 14 is not met: the other survivors have frames for every copy but one
@@ -116,18 +113,6 @@ module _ (g : Geometry) (saved : ℕ → ℕ) (w u : View) (plain : Plain g save
           crowded (g .nodes) (g .frames) (live u) holds a (o .within) (copy-live u b a (o .holds)) own (λ n l d t. full n l d t (none n l d)),
         )
 
-    found-few : first (takesAfter g u b a) (g .nodes - 1) < g .nodes - 1
-    unfolding takesAfter
-    found-few =
-        elim (decLt (first (takesAfter g u b a) (g .nodes - 1)) (g .nodes - 1)) [
-          | yes l ↦ l
-          | no l ↦
-              absurd (some-takes (λ n h d.
-              let s = after-reaches g a (o .within) n h d in
-              sym (ap (takes g u b) (s .reach))
-              ∙ first-least (takesAfter g u b a) (g .nodes - 1) (s .steps) (omega (arith, s .few))))
-        ]
-
     -- the partner found: another live node of the table, without the item, with a frame free
     pub record Found (m : ℕ) : Type 0 where
       pub alive : Live g u m
@@ -136,14 +121,14 @@ module _ (g : Geometry) (saved : ℕ → ℕ) (w u : View) (plain : Plain g save
       pub free : used g u m (setOf g b) + 1 ≤ setFrames g
 
     pub partner-found : Found (partnerOf g u b a)
-    unfolding partnerOf takesAfter takes
+    unfolding partnerOf takes
     partner-found =
-        let l = found-few in
-        let t = both (live u (partnerOf g u b a)) (first-passes (takesAfter g u b a) (g .nodes - 1) l) in
+        let f = after-found (takes g u b) (g .nodes) a (λ e. some-takes (after-none (takes g u b) (g .nodes) a (o .within) e)) in
+        let t = both (live u (partnerOf g u b a)) (f .passes) in
         let t′ = both (eqb (current (u .entry (partnerOf g u b a) b)) invalid) (t .1) in
         record {
-          alive = test-live g u (partnerOf g u b a) (after-below g a (o .within) (first (takesAfter g u b a) (g .nodes - 1)) (omega arith)) (t .0);
-          other = after-other g a (o .within) (first (takesAfter g u b a) (g .nodes - 1)) l;
+          alive = test-live g u (partnerOf g u b a) (f .there) (t .0);
+          other = f .other;
           empty = eqb-true (current (u .entry (partnerOf g u b a) b)) invalid (t′ .0);
           free = omega (arith, ltb-true (used g u (partnerOf g u b a) (setOf g b)) (setFrames g) (t′ .1));
         }

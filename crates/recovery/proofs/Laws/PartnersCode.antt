@@ -9,31 +9,28 @@ use native.Mathlib.Numerals.{add-one}
 use lib.Dec.{eqb, ltb}
 use lib.ListN.{length, getD, set, length-set}
 use lib.Seq.{drop-set-lt, getD-set-same, getD-set-other}
-use borrow.Author.Tests.{eq-eqb, ne-eqb, eqb-true, ltb-true, lt-ltb, le-ltb}
+use borrow.Author.Tests.{eq-eqb, ne-eqb, eqb-true, ltb-true}
 use Rattle.counting.proofs.Laws.Tests.{both, no-both, by-cases}
 use Rattle.counting.specs.Counting.{count, first}
 use Rattle.counting.proofs.Laws.Counting.{only}
-use Rattle.counting.proofs.Laws.First.{first-turns, first-found, first-ends, first-le, first-least, first-passes, first-ext}
+use Rattle.counting.proofs.Laws.First.{first-le, first-least}
+use Rattle.counting.proofs.Laws.Cyclic.{first-after-below, first-after-ext, after-found}
 use Rattle.table.specs.declared.geometry.Geometry.{Geometry}
 use Rattle.table.specs.Geometry.{wordsOf}
 use Rattle.table.specs.Words.{currentOf, keptOf, invalid, sharedCK}
 use Rattle.table.specs.Changes.{checkpointOf}
-use Rattle.table.specs.Stores.{Stored, StoredIn, entryStore, valueTo, stateTo}
+use Rattle.table.specs.Stores.{Store, Stored, StoredIn, entryStore, valueTo, stateTo}
 use Rattle.table.proofs.Laws.Stores.{stored-none, stored-as, stored-two, All, none, all-then}
 use Rattle.table.specs.View.{Entry, View, view, live, current, updates}
 use Rattle.entries.specs.Frames.{setFrames, used, framesAt}
 use Rattle.entries.specs.Tally.{copy}
-use Rattle.homes.specs.Home.{nodeAfter}
-use Rattle.homes.proofs.Laws.HomeCode.{after-below}
-use Rattle.homes.proofs.Laws.HomeLaws.{after-all}
 use Rattle.survivors.specs.declared.lost.Lost.{Lost}
 use Rattle.survivors.specs.declared.lost.Lost.the-variants.{Nobody, Node}
 use Rattle.survivors.specs.Survivors.{survivors}
 use Rattle.survivors.proofs.Laws.SurvivorsCode.{survivor-entry}
-use Rattle.recovery.specs.Numbering.{single, holderOf, takes, takesAfter, partnerOf, partnerChanges, partnerFrom, partnerStores, staged, partnersStores}
+use Rattle.recovery.specs.Numbering.{single, holderOf, takes, partnerOf, partnerChanges, partnerFrom, partnerStores, staged, partnersStores}
 use Rattle.recovery.proofs.Laws.Followed.{stored-any, view-left, Entered, entered-changes, entered-within, survivors-entered, stage-follows}
-use Rattle.recovery.specs.code.Rows.{HasEntry}
-use Rattle.recovery.specs.code.PartnersCode.{AgreesTo, Counts, usedWith, takesBy, takesByAfter, partnerBy, UsedBy, Filled, Ready, Turned, Found, FilledFrom}
+use Rattle.recovery.specs.code.PartnersCode.{AgreesTo, Counts, usedWith, takesBy, partnerBy, UsedBy, Filled, Ready, Turned, Found, FilledFrom}
 use Rattle.recovery.proofs.Laws.PartnersCounts.{agrees-start, agrees-turn, partner-agrees}
 
 -- ---- the test and the search, by the table and by the scratch
@@ -43,11 +40,9 @@ module _ (g : Geometry) (w : View) (s : List ℕ) (b : ℕ) where
   unfolding takesBy takes
   takes-same a m l = by-cases (live w m) (λ e. rw (e, a .at m l e) refl) (λ e. rw e refl)
 
-  partner-same : AgreesTo g w s (g .nodes) → (n : ℕ) → n < g .nodes → partnerBy g w s b n ≡ partnerOf g w b n
-  unfolding partnerBy partnerOf takesByAfter takesAfter
-  partner-same a n h =
-      ap (nodeAfter g n)
-      (first-ext (g .nodes - 1) (takesByAfter g w s b n) (takesAfter g w b n) (λ i l. takes-same a (nodeAfter g n i) (after-below g n h i (omega arith))))
+  partner-same : AgreesTo g w s (g .nodes) → (n : ℕ) → partnerBy g w s b n ≡ partnerOf g w b n
+  unfolding partnerBy partnerOf
+  partner-same a n = first-after-ext (takesBy g w s b) (takes g w b) (g .nodes) n (takes-same a)
 
   -- the partner found
   record Taker (n p : ℕ) : Type 0 where
@@ -56,20 +51,19 @@ module _ (g : Geometry) (w : View) (s : List ℕ) (b : ℕ) where
     pub free : current (w .entry p b) ≡ invalid
     pub few : getD s p 0 < setFrames g
 
-  partner-takes : (n : ℕ) → n < g .nodes → (partnerBy g w s b n ≡ n → ⊥) → Taker n (partnerBy g w s b n)
-  unfolding partnerBy takesByAfter takesBy
-  partner-takes n h d =
-      let k = first (takesByAfter g w s b n) (g .nodes - 1) in
-      let m = first-le (takesByAfter g w s b n) (g .nodes - 1) in
-      let l : k < g .nodes - 1 = elim (ℕ-discrete k (g .nodes - 1)) [ yes q ↦ absurd (d (ap (nodeAfter g n) q ∙ after-all g n h)) | no q ↦ omega arith ] in
-      let t = both (live w (nodeAfter g n k)) (first-passes (takesByAfter g w s b n) (g .nodes - 1) l) in
-      let u = both (eqb (current (w .entry (nodeAfter g n k) b)) invalid) (t .1) in
-      record { there = after-below g n h k (omega arith); alive = t .0; free = eqb-true _ invalid (u .0); few = ltb-true _ _ (u .1) }
+  partner-takes : (n : ℕ) → (partnerBy g w s b n ≡ n → ⊥) → Taker n (partnerBy g w s b n)
+  unfolding partnerBy takesBy
+  partner-takes n d =
+      let p = partnerBy g w s b n in
+      let f = after-found (takesBy g w s b) (g .nodes) n d in
+      let t = both (live w p) (f .passes) in
+      let u = both (eqb (current (w .entry p b)) invalid) (t .1) in
+      record { there = f .there; alive = t .0; free = eqb-true _ invalid (u .0); few = ltb-true _ _ (u .1) }
 
   -- as the code finds it
-  module _ (n : ℕ) {p : ℕ} (h : n < g .nodes) (e : p ≡ partnerBy g w s b n) (d : p ≡ n → ⊥) where
+  module _ (n : ℕ) {p : ℕ} (e : p ≡ partnerBy g w s b n) (d : p ≡ n → ⊥) where
     found-takes : Taker n p
-    found-takes = subst (Taker n) (sym e) (partner-takes n h (λ z. d (e ∙ z)))
+    found-takes = subst (Taker n) (sym e) (partner-takes n (λ z. d (e ∙ z)))
 
     pub found-there : p < g .nodes
     found-there = found-takes .there
@@ -77,13 +71,8 @@ module _ (g : Geometry) (w : View) (s : List ℕ) (b : ℕ) where
     pub found-room : g .nodes ≤ length s → p < length s
     found-room room = omega (arith, found-takes .there)
 
-  pub found : (n : ℕ) {p : ℕ} → g .frames < 65536 → n < g .nodes → p ≡ partnerBy g w s b n → Found g w s b n p
-  found n l h e = record { is = e; few = λ d. omega (arith, found-takes n h e d .few) }
-
--- the entry of the node so many steps after another
-pub after-entry :
-    (g : Geometry) (t : List ℕ) (n b : ℕ) → HasEntry g t n b → (i : ℕ) → i < g .nodes → {h : ℕ} → h ≡ nodeAfter g n i → HasEntry g t h b
-after-entry g t n b e i l q = (rw q (after-below g n (e .0) i l), e .1)
+  pub found : (n : ℕ) {p : ℕ} → g .frames < 65536 → p ≡ partnerBy g w s b n → Found g w s b n p
+  found n l e = record { is = e; few = λ d. omega (arith, found-takes n e d .few) }
 
 -- ---- whether a node can take a partner
 
@@ -98,38 +87,6 @@ module _ (lost : Lost) (v : View) (b n : ℕ) {mark : ℕ} (h : mark ≡ survivo
         → (eqb c invalid && ltb u f) ≡ takesBy g (survivors lost v) s b n
     unfolding takesBy
     takes-live e p q r k = rw (← h, ne-eqb mark 0 e, survivor-entry lost v, q, p, r, k) refl
-
--- ---- the search
-
-module _ (g : Geometry) (n i : ℕ) {h : ℕ} where
-  pub node-straight : n + 1 + i < g .nodes → h ≡ n + 1 + i → h ≡ nodeAfter g n i
-  unfolding nodeAfter
-  node-straight l e = rw (lt-ltb (n + 1 + i) (g .nodes) l) e
-
-  pub node-round : g .nodes ≤ n + 1 + i → h ≡ n + 1 + i - g .nodes → h ≡ nodeAfter g n i
-  unfolding nodeAfter
-  node-round l e = rw (le-ltb (n + 1 + i) (g .nodes) l) e
-
-module _ (g : Geometry) (w : View) (s : List ℕ) (b n i : ℕ) (so : first (takesByAfter g w s b n) i ≡ i) {h : ℕ} (p : h ≡ nodeAfter g n i) where
-  module _ {found : Bool} (q : found ≡ takesBy g w s b h) where
-    test : {r : Bool} → found ≡ r → takesByAfter g w s b n i ≡ r
-    unfolding takesByAfter
-    test e = sym (q ∙ ap (takesBy g w s b) p) ∙ e
-
-    pub partner-here : i < g .nodes - 1 → found ≡ true → h ≡ partnerBy g w s b n
-    unfolding partnerBy
-    partner-here l e = p ∙ ap (nodeAfter g n) (sym (first-found (takesByAfter g w s b n) i (g .nodes - 1) so (test e) l))
-
-    pub partner-on : found ≡ false → first (takesByAfter g w s b n) (i + 1) ≡ i + 1
-    partner-on e = first-turns (takesByAfter g w s b n) i so (test e)
-
-pub partner-none :
-    (g : Geometry) (w : View) (s : List ℕ) (b n i : ℕ) → n < g .nodes → first (takesByAfter g w s b n) i ≡ i → i ≤ g .nodes - 1 → g .nodes - 1 ≤ i
-    → n ≡ partnerBy g w s b n
-unfolding partnerBy
-partner-none g w s b n i h so k l =
-    let e : i ≡ g .nodes - 1 = omega arith in
-    sym (ap (nodeAfter g n) (sym (first-ends (takesByAfter g w s b n) i (g .nodes - 1) so k l)) ∙ after-all g n h)
 
 -- ---- the partner's code: the absent number
 
@@ -161,7 +118,7 @@ module _ (n state : ℕ) {k : ℕ} (h : k ≡ keptOf state) where
 
 -- ---- the partner of one copy
 
-module _ (g : Geometry) (lost : Lost) (b n : ℕ) {left p : ℕ} {t s : List ℕ} (ready : Ready g lost left t s) (h : n < g .nodes)
+module _ (g : Geometry) (lost : Lost) (b n : ℕ) {left p : ℕ} {t s : List ℕ} (ready : Ready g lost left t s)
     (e : p ≡ partnerBy g (survivors lost (view g t)) s b n) where
   -- with the scratch's partner in the place of the table's: the same while anything is left
   same-stores :
@@ -171,7 +128,7 @@ module _ (g : Geometry) (lost : Lost) (b n : ℕ) {left p : ℕ} {t s : List ℕ
   unfolding partnerFrom
   same-stores r = elim (ℕ-discrete left 0) [
     | yes z ↦ (let r′ = rw z at r in rw z (stored-any (partnerFrom g (survivors lost (view g t)) b n) r′))
-    | no z ↦ rw (← partner-same g (survivors lost (view g t)) s b (ready .counts .known z) n h, ← e) r
+    | no z ↦ rw (← partner-same g (survivors lost (view g t)) s b (ready .counts .known z) n, ← e) r
   ]
 
   pub from-none : p ≡ n → Turned g lost (λ w. partnerFrom g w b n) left t t s s left
@@ -195,7 +152,7 @@ module _ (g : Geometry) (lost : Lost) (b n : ℕ) {left p : ℕ} {t s : List ℕ
   }
     where
       taker : Taker g (survivors lost (view g t)) s b n p
-      taker = found-takes g (survivors lost (view g t)) s b n h e d
+      taker = found-takes g (survivors lost (view g t)) s b n e d
 
       entered : All (Entered g) (map (entryStore p b) (partnerChanges (view g t .entry n b)))
       entered = entered-changes g p b (partnerChanges (view g t .entry n b)) (taker .there) item
@@ -215,7 +172,7 @@ module _ (g : Geometry) (lost : Lost) (b n : ℕ) {left p : ℕ} {t s : List ℕ
 -- ---- one item
 
 -- a single copy has a holder
-pub holder-there : (g : Geometry) (w : View) (b : ℕ) → count (copy w b) (g .nodes) ≡ 1 → holderOf g w b < g .nodes
+holder-there : (g : Geometry) (w : View) (b : ℕ) → count (copy w b) (g .nodes) ≡ 1 → holderOf g w b < g .nodes
 unfolding holderOf
 holder-there g w b e =
     let o = only (g .nodes) (copy w b) e in
@@ -271,23 +228,26 @@ item-other g lost b {left} {t} {s} e k = record {
 
 -- ---- all items
 
-entered-partner : (g : Geometry) (b : ℕ) (w : View) → b < g .items → All (Entered g) (partnerStores g b w)
+-- a partner's stores, those at whatever node takes it being right
+pub all-partner :
+    {p : Store → Type 0} (g : Geometry) (b : ℕ) (w : View)
+    → ((n : ℕ) (e : Entry) → n < g .nodes → All p (map (entryStore n b) (partnerChanges e))) → All p (partnerStores g b w)
 unfolding partnerStores single partnerFrom partnerOf
-entered-partner g b w hb = go (eqb (count (copy w b) (g .nodes)) 1) refl
+all-partner {p} g b w right = go (eqb (count (copy w b) (g .nodes)) 1) refl
   where
-    stores : (n : ℕ) → n < g .nodes → All (Entered g) (partnerFrom g w b n)
+    stores : (n : ℕ) → n < g .nodes → All p (partnerFrom g w b n)
     stores n h = at (eqb (partnerOf g w b n) n)
       where
-        below : partnerOf g w b n < g .nodes
-        below = after-below g n h (first (takesAfter g w b n) (g .nodes - 1)) (omega (arith, first-le (takesAfter g w b n) (g .nodes - 1)))
-
-        at : (q : Bool) → All (Entered g) (cond q [] (map (entryStore (partnerOf g w b n) b) (partnerChanges (w .entry n b))))
+        at : (q : Bool) → All p (cond q [] (map (entryStore (partnerOf g w b n) b) (partnerChanges (w .entry n b))))
         at true = none
-        at false = entered-changes g (partnerOf g w b n) b (partnerChanges (w .entry n b)) below hb
+        at false = right (partnerOf g w b n) (w .entry n b) (first-after-below (takes g w b) (g .nodes) n h)
 
-    go : (q : Bool) → eqb (count (copy w b) (g .nodes)) 1 ≡ q → All (Entered g) (cond q (partnerFrom g w b (holderOf g w b)) [])
+    go : (q : Bool) → eqb (count (copy w b) (g .nodes)) 1 ≡ q → All p (cond q (partnerFrom g w b (holderOf g w b)) [])
     go true e = stores (holderOf g w b) (holder-there g w b (eqb-true _ 1 e))
     go false e = none
+
+entered-partner : (g : Geometry) (b : ℕ) (w : View) → b < g .items → All (Entered g) (partnerStores g b w)
+entered-partner g b w h = all-partner g b w (λ n e l. entered-changes g n b (partnerChanges e) l h)
 
 pub entered-staged : (g : Geometry) (i : ℕ) (w : View) → i ≤ g .items → All (Entered g) (staged (partnerStores g) i w)
 unfolding staged

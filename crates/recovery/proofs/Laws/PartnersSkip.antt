@@ -2,15 +2,12 @@
 use Prim.Native.Nat.{ℕ, zero, suc, _+_, _-_, _*_, _≤_, _<_}
 use mathlib.Core.Path.{_≡_, refl, sym, ap, _∙_}
 use mathlib.Core.Logic.{_≢_}
-use mathlib.Core.Bool.{Bool, true, false, cond}
 use mathlib.Core.List.{List, [], _∷_, map}
 use native.Mathlib.Omega.{arith}
-use lib.Dec.{eqb}
 use lib.ListN.{getD}
-use borrow.Author.Tests.{eqb-true}
-use Rattle.counting.specs.Counting.{count, first}
+use Rattle.counting.specs.Counting.{count}
 use Rattle.counting.proofs.Laws.Counting.{count-ext}
-use Rattle.counting.proofs.Laws.First.{first-le, first-ext}
+use Rattle.counting.proofs.Laws.First.{first-ext}
 use Rattle.table.specs.declared.geometry.Geometry.{Geometry}
 use Rattle.table.specs.Geometry.{entryAt, markAt}
 use Rattle.table.proofs.Laws.Geometry.{entries-apart}
@@ -19,13 +16,12 @@ use Rattle.table.proofs.Laws.Stores.{part-low, after-off, All, none, more, all-
 use Rattle.table.specs.View.{View, view, updates}
 use Rattle.table.proofs.Laws.View.{mark-read, entry-read, entry-same}
 use Rattle.entries.specs.Tally.{copy}
-use Rattle.homes.proofs.Laws.HomeCode.{after-below}
 use Rattle.survivors.specs.declared.lost.Lost.{Lost}
 use Rattle.survivors.specs.Survivors.{survivors}
 use Rattle.survivors.proofs.Laws.SurvivorsCode.{survivor-entry, survivor-marks}
-use Rattle.recovery.specs.Numbering.{single, holderOf, takesAfter, partnerOf, partnerChanges, partnerFrom, partnerStores, staged}
+use Rattle.recovery.specs.Numbering.{single, holderOf, partnerChanges, partnerStores, staged}
 use Rattle.recovery.specs.code.PartnersCode.{Ready, Turned, Single, Settles, Passable}
-use Rattle.recovery.proofs.Laws.PartnersCode.{holder-there, item-other, items-ready}
+use Rattle.recovery.proofs.Laws.PartnersCode.{item-other, items-ready, all-partner}
 use Rattle.recovery.specs.code.Tallies.{holdersBy, holderBy}
 
 -- ---- the stores of the items before i
@@ -40,22 +36,7 @@ before-changes g i n b [] hn hb h = none
 before-changes g i n b (c ∷ cs) hn hb h = more {s = entryStore n b c} (hn, (hb, h)) (before-changes g i n b cs hn hb h)
 
 before-partner : (g : Geometry) (i b : ℕ) (w : View) → b < g .items → b < i → All (Before g i) (partnerStores g b w)
-unfolding partnerStores single partnerFrom partnerOf
-before-partner g i b w hb hi = go (eqb (count (copy w b) (g .nodes)) 1) refl
-  where
-    stores : (n : ℕ) → n < g .nodes → All (Before g i) (partnerFrom g w b n)
-    stores n h = at (eqb (partnerOf g w b n) n)
-      where
-        below : partnerOf g w b n < g .nodes
-        below = after-below g n h (first (takesAfter g w b n) (g .nodes - 1)) (omega (arith, first-le (takesAfter g w b n) (g .nodes - 1)))
-
-        at : (q : Bool) → All (Before g i) (cond q [] (map (entryStore (partnerOf g w b n) b) (partnerChanges (w .entry n b))))
-        at true = none
-        at false = before-changes g i (partnerOf g w b n) b (partnerChanges (w .entry n b)) below hb hi
-
-    go : (q : Bool) → eqb (count (copy w b) (g .nodes)) 1 ≡ q → All (Before g i) (cond q (partnerFrom g w b (holderOf g w b)) [])
-    go true e = stores (holderOf g w b) (holder-there g w b (eqb-true _ 1 e))
-    go false e = none
+before-partner g i b w hb hi = all-partner g b w (λ n e l. before-changes g i n b (partnerChanges e) l hb hi)
 
 before-staged : (g : Geometry) (i k : ℕ) (w : View) → k ≤ g .items → k ≤ i → All (Before g i) (staged (partnerStores g) k w)
 unfolding staged

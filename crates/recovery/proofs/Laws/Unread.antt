@@ -9,7 +9,7 @@ use lib.Dec.{eqb}
 use Rattle.counting.specs.Counting.{count}
 use Rattle.counting.specs.Values.{Values}
 use Rattle.counting.proofs.Laws.Counting.{every-ext, count-ext}
-use Rattle.counting.proofs.Laws.First.{first-ext}
+use Rattle.counting.proofs.Laws.Cyclic.{first-after-ext}
 use Rattle.counting.proofs.Laws.Tests.{both, and-same, by-cases}
 use Rattle.counting.proofs.Laws.Values.{values-ext}
 use Rattle.table.specs.declared.geometry.Geometry.{Geometry}
@@ -26,14 +26,13 @@ use Rattle.entries.specs.Tally.{has, copy}
 use Rattle.entries.specs.Sound.{marksForm}
 use Rattle.entries.proofs.Laws.Unread.{over, Agrees, same-test, same-first, same-found, same-free, same-nodes, updates-over, updates-agree}
 use Rattle.homes.specs.declared.admission.Admission.{Admission}
-use Rattle.homes.specs.Home.{nodeAfter}
 use Rattle.homes.specs.Admission.{planAdmitted}
 use Rattle.checkpoints.proofs.Laws.Unread.{same-entries-to}
 use Rattle.survivors.specs.declared.lost.Lost.{Lost}
 use Rattle.survivors.specs.Survivors.{lostStores, survivors, survivorCount, tooFew, largestNumber, closingStores}
 use Rattle.survivors.specs.Direction.{forwardIn}
 use Rattle.recovery.specs.Sides.{copyOn, hasCopy, copiesOn, itemFits, itemsFit, rollChange, rollStores}
-use Rattle.recovery.specs.Numbering.{holders, numberAt, numberChange, numberStores, single, holderOf, takes, takesAfter, partnerOf, partnerFrom, partnerStores, staged, partnersStores}
+use Rattle.recovery.specs.Numbering.{holders, numberAt, numberChange, numberStores, single, holderOf, takes, partnerOf, partnerFrom, partnerStores, staged, partnersStores}
 use Rattle.recovery.specs.Recover.{followed, survivorStores, recoverStores, survivorsFormed, recoverAdmission, recoverChecked, recoverOf}
 use Rattle.recovery.proofs.Laws.Followed.{Entered}
 use Rattle.recovery.proofs.Laws.PartnersCode.{entered-staged, entered-partners}
@@ -108,8 +107,8 @@ module _ (g : Geometry) (w : View) (e : ℕ → ℕ → Entry) (s : Agrees g w e
       (λ t. ap₂ (λ (x : Entry) (free : Bool). eqb (current x) invalid && free) (s .alive n b t) (same-free g w e s n b t))
 
   same-partner-of : (b n : ℕ) → partnerOf g (over w e) b n ≡ partnerOf g w b n
-  unfolding partnerOf takesAfter
-  same-partner-of b n = ap (nodeAfter g n) (first-ext (g .nodes - 1) _ _ (λ i l. same-takes b (nodeAfter g n i)))
+  unfolding partnerOf
+  same-partner-of b n = first-after-ext _ _ (g .nodes) n (λ m l. same-takes b m)
 
   same-partner : (b : ℕ) → partnerStores g b (over w e) ≡ partnerStores g b w
   unfolding partnerStores partnerFrom

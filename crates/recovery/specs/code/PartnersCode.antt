@@ -1,6 +1,6 @@
 -- The frames in use of each survivor, as the partner stage holds them in the first words of the scratch: they agree with the table while anything is
 -- left of the limit.
-use Prim.Native.Nat.{ℕ, _+_, _<_, _-_, _≤_}
+use Prim.Native.Nat.{ℕ, _+_, _<_, _≤_}
 use mathlib.Core.Path.{_≡_}
 use mathlib.Core.Bool.{true, cond, Bool, _&&_}
 use mathlib.Core.List.{List}
@@ -12,10 +12,10 @@ use Rattle.table.specs.View.{View, view, live, current}
 use Rattle.entries.specs.Frames.{used, setFrames}
 use Rattle.survivors.specs.declared.lost.Lost.{Lost}
 use Rattle.survivors.specs.Survivors.{survivors}
-use Rattle.counting.specs.Counting.{first, count}
+use Rattle.counting.specs.Counting.{count}
+use Rattle.counting.specs.Cyclic.{firstAfter}
 use Rattle.table.specs.Geometry.{wordsOf}
 use Rattle.table.specs.Stores.{Store, Stored}
-use Rattle.homes.specs.Home.{nodeAfter}
 use Rattle.entries.specs.Tally.{copy}
 use Rattle.recovery.specs.Numbering.{holderOf}
 use Rattle.recovery.specs.code.Tallies.{holdersBy, holderBy}
@@ -38,12 +38,9 @@ usedWith n state = cond (eqb (keptOf state) invalid) (n + 1) n
 unfoldable pub takesBy : Geometry → View → List ℕ → ℕ → ℕ → Bool
 takesBy g w s b n = live w n && (eqb (current (w .entry n b)) invalid && ltb (getD s n 0) (setFrames g))
 
-unfoldable pub takesByAfter : Geometry → View → List ℕ → ℕ → ℕ → ℕ → Bool
-takesByAfter g w s b n i = takesBy g w s b (nodeAfter g n i)
-
 -- the partner of node n's copy, by the scratch; n itself if none can take it
 unfoldable pub partnerBy : Geometry → View → List ℕ → ℕ → ℕ → ℕ
-partnerBy g w s b n = nodeAfter g n (first (takesByAfter g w s b n) (g .nodes - 1))
+partnerBy g w s b n = firstAfter (takesBy g w s b) (g .nodes) n
 
 -- what a survivor uses
 pub record UsedBy (g : Geometry) (w : View) (n r : ℕ) : Type 0 where

@@ -41,7 +41,7 @@ module _ (g : Geometry) (v : View) (place : Place) (n b : ℕ) (h : n < g .nodes
   no-home-other =
       bool-iff (noHome g v place n b) (noOther g v place n b)
       (λ e. ap not (exists-not (g .nodes) other (none e)))
-      (λ e. none-no-home g v place n b h
+      (λ e. none-no-home g v place n b
       (λ m l d. and-no-right (not (eqb m n)) (ap not (ne-eqb m n d)) (not-exists (g .nodes) other (not-true _ e) m l)))
     where
       none : noHome g v place n b ≡ true → (m : ℕ) → m < g .nodes → other m ≡ false

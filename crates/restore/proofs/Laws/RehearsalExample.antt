@@ -14,6 +14,7 @@ use Rattle.restore.specs.Operations.{callBy}
 use Rattle.restore.proofs.Laws.RehearsalHit.{hit-struck}
 use Rattle.restore.specs.Demand3.{memory}
 use Rattle.counting.specs.Counting.{every, sum, count, first, firstOr, exists}
+use Rattle.counting.specs.Cyclic.{nodeAfter, testAfter, firstAfter}
 use Rattle.counting.specs.Values.{valuesOf}
 use Rattle.table.specs.Geometry.{geometryOf}
 use Rattle.table.specs.Changes.{changeOf}
@@ -30,7 +31,7 @@ use Rattle.homes.specs.Places.{placeBy}
 use Rattle.calls.specs.Transitions.{changeTo}
 use Rattle.entries.specs.Dirty.{ownsAt, ownerOf, dirty, dirtyItem}
 use Rattle.checkpoints.specs.Checkpoint.{commonMark, isOpen, openAdmission, liveChanges, entriesBefore, commitChange, closeChange}
-use Rattle.homes.specs.Home.{sharedAt, sharedItem, hasRoom, placeFits, fits, nodeAfter, fitsAfter, passedOver, homeOf, droppedItem, currentLeft, arrivalOf, dropStores, arrivalChanges, homeStoresBy, homeStores}
+use Rattle.homes.specs.Home.{sharedAt, sharedItem, hasRoom, placeFits, fits, homeOf, droppedItem, currentLeft, arrivalOf, dropStores, arrivalChanges, homeStoresBy, homeStores}
 use Rattle.calls.specs.Read.{servesAt, serverOf, fetchFrom, readStores, readValue}
 use Rattle.calls.specs.Write.{otherChanges, otherStores, ownKeep, keptAfter, ownChanges, writeStores}
 use Rattle.homes.specs.Evict.{sourceStores, movedTo, evictStores, placeAdmission}
@@ -40,7 +41,7 @@ use Rattle.checkpoints.specs.Commit.{commitStores, createdAdmission}
 use Rattle.survivors.specs.Survivors.{lostBy, survivorCount, tooFewWith, tooFew, largest, largestNumber, closingStores}
 use Rattle.recovery.specs.Sides.{copiesOn, itemFits, itemsFit, bringBack, settled, rollChange, rollStores}
 use Rattle.survivors.specs.Direction.{forwardIn}
-use Rattle.recovery.specs.Numbering.{holders, numberAfter, numberChange, numberStores, single, holderOf, takes, takesAfter, partnerOf, partnerChanges, partnerFrom, partnerStores, staged, partnersStores}
+use Rattle.recovery.specs.Numbering.{holders, numberAfter, numberChange, numberStores, single, holderOf, takes, partnerOf, partnerChanges, partnerFrom, partnerStores, staged, partnersStores}
 use Rattle.recovery.specs.Recover.{followed, survivorStores, recoverStores, survivorsFormed, recoverAdmission, recoverChecked, recoverOf}
 use Rattle.restore.specs.Call.{planOf}
 
@@ -93,12 +94,12 @@ unfolding every sum count first firstOr valuesOf geometryOf changeOf runs after 
     statesForm nodeSound nodesSound itemSound itemsSound sound lengthOf sizesOf soundOf faultOf planAdmitted
     planChecked planBy admissionOf frameFull frameAdmission changeTo commonMark isOpen openAdmission ownsAt ownerOf
     dirty dirtyItem liveChanges entriesBefore commitChange closeChange sharedAt sharedItem hasRoom placeFits fits
-    nodeAfter fitsAfter passedOver homeOf droppedItem currentLeft arrivalOf dropStores arrivalChanges homeStoresBy
+    nodeAfter testAfter firstAfter homeOf droppedItem currentLeft arrivalOf dropStores arrivalChanges homeStoresBy
     homeStores servesAt serverOf fetchFrom readStores readValue otherChanges otherStores ownKeep keptAfter
     ownChanges writeStores sourceStores movedTo evictStores placeAdmission startAdmission sharesAt sharerOf
     precommit2Stores createItem noPartner createPlan commitStores createdAdmission exists survivorCount forwardIn
     copiesOn itemFits itemsFit bringBack settled rollChange rollStores holders numberAfter numberChange numberStores
-    single holderOf takes takesAfter partnerOf partnerChanges partnerFrom partnerStores staged partnersStores
+    single holderOf takes partnerOf partnerChanges partnerFrom partnerStores staged partnersStores
     largest largestNumber closingStores followed survivorStores recoverStores survivorsFormed tooFewWith tooFew
     recoverAdmission recoverChecked recoverOf planOf run placeBy lostBy callBy callAt stepsTo nodeWordAt putTo
     hitNode hitSized hitBy commitsFrom memoryFrom

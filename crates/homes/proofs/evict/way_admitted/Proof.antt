@@ -1,6 +1,4 @@
 -- `way_admitted` meets its contract: 10, dropped, 11, or home. Assumes nothing.
-use mathlib.Core.Path.{_∙_}
-use Rattle.homes.proofs.Laws.HomeCode.{home-there}
 use Rattle.homes.proofs.Laws.EvictCode.{way-invalid, way-drops, way-none, way-goes}
 use borrow.Author.Needs.{needs}
 use Rattle.homes.proofs.evict.way_admitted.Statement.{statement}
@@ -17,12 +15,12 @@ returns-2 c =
 returns-3 : tie.Need-returns-3
 returns-3 c =
     let k = c .before .before .before .before .before in
-    way-none _ _ _ _ _ (k .before .state-at .ensures) (k .code-of .ensures) (c .before .before .before .before .if1 .left) (c .before .before .before .shared-in .ensures) (c .before .before .if2 .left) (c .before .home-of .ensures ∙ home-there _ _ _ _ _ (search needs)) (c .if3 .taken)
+    way-none _ _ _ _ _ (k .before .state-at .ensures) (k .code-of .ensures) (c .before .before .before .before .if1 .left) (c .before .before .before .shared-in .ensures) (c .before .before .if2 .left) (c .before .home-of .ensures) (c .if3 .taken)
 
 returns-4 : tie.Need-returns-4
 returns-4 c =
     let k = c .before .before .before .before .before in
-    way-goes _ _ _ _ _ (k .before .state-at .ensures) (k .code-of .ensures) (c .before .before .before .before .if1 .left) (c .before .before .before .shared-in .ensures) (c .before .before .if2 .left) (c .before .home-of .ensures ∙ home-there _ _ _ _ _ (search needs)) (c .if3 .left)
+    way-goes _ _ _ _ _ (k .before .state-at .ensures) (k .code-of .ensures) (c .before .before .before .before .if1 .left) (c .before .before .before .shared-in .ensures) (c .before .before .if2 .left) (c .before .home-of .ensures) (c .if3 .left)
 
 pub way-admitted-spec : {M : Type 1} → statement M
 way-admitted-spec =

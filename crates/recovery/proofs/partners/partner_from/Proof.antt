@@ -11,7 +11,7 @@ returns : tie.Need-returns
 returns c =
     let o = c .before .before .before .before .before .before in
     let a = o .args in
-    from-none (a .g) (a .lost) (a .item) (a .node) (o .pre .0) (o .pre .1 .0) (c .before .partner-of .ensures .is) (c .if1 .taken)
+    from-none (a .g) (a .lost) (a .item) (a .node) (o .pre .0) (c .before .partner-of .ensures .is) (c .if1 .taken)
 
 state-in-requires : tie.Need-state-in-requires
 state-in-requires c κs =
@@ -19,7 +19,7 @@ state-in-requires c κs =
     let p = i .before in
     let o = p .before .before .before .before .before in
     let a = o .args in
-    (found-there (a .g) (survivors (a .lost) (view (a .g) (a .table .now))) (a .scratch .now) (a .item) (a .node) (o .pre .1 .0) (p .partner-of .ensures .is) (i .if1 .left), (o .pre .1 .1, o .pre .0 .long))
+    (found-there (a .g) (survivors (a .lost) (view (a .g) (a .table .now))) (a .scratch .now) (a .item) (a .node) (p .partner-of .ensures .is) (i .if1 .left), (o .pre .1 .1, o .pre .0 .long))
 
 used-with-requires : tie.Need-used-with-requires
 used-with-requires c κs =
@@ -31,7 +31,7 @@ slice-write-scratch c =
     let p = c .before .before .before .before .before .before in
     let o = p .before .before .before .before .before in
     let a = o .args in
-    found-room (a .g) (survivors (a .lost) (view (a .g) (a .table .now))) (a .scratch .now) (a .item) (a .node) (o .pre .1 .0) (p .partner-of .ensures .is) (c .before .before .before .before .before .if1 .left) (o .pre .0 .room)
+    found-room (a .g) (survivors (a .lost) (view (a .g) (a .table .now))) (a .scratch .now) (a .item) (a .node) (p .partner-of .ensures .is) (c .before .before .before .before .before .if1 .left) (o .pre .0 .room)
 
 returns-2 : tie.Need-returns-2
 returns-2 c =
@@ -40,7 +40,7 @@ returns-2 c =
     let p = s .before .before .before in
     let o = p .before .before .before .before .before in
     let a = o .args in
-    from-made (a .g) (a .lost) (a .item) (a .node) (o .pre .0) (o .pre .1 .0) (p .partner-of .ensures .is) (o .pre .1 .1) (s .before .before .if1 .left) (s .state-in .ensures) (u .before .word .ensures) (u .used-with .ensures) (c .before .before .store-partner .ensures)
+    from-made (a .g) (a .lost) (a .item) (a .node) (o .pre .0) (p .partner-of .ensures .is) (o .pre .1 .1) (s .before .before .if1 .left) (s .state-in .ensures) (u .before .word .ensures) (u .used-with .ensures) (c .before .before .store-partner .ensures)
 
 pub partner-from-spec : {M : Type 1} → statement M
 partner-from-spec =

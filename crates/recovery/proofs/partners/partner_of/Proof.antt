@@ -1,47 +1,43 @@
--- `partner_of` meets its contract: no node passed over can take the partner. Assumes nothing.
-use Prim.Native.Nat.{_≤_, _-_}
-use mathlib.Core.Path.{_≡_}
-use native.Mathlib.Omega.{arith}
-use Rattle.counting.specs.Counting.{first}
-use Rattle.counting.proofs.Laws.First.{first-starts}
+-- `partner_of` meets its contract: the nodes tried cannot take the partner. Assumes nothing.
+use Rattle.counting.proofs.Laws.Cyclic.{Searching, search-starts, search-there, search-found, search-on, search-ends, step-falls}
 use Rattle.table.specs.View.{view}
 use Rattle.survivors.specs.Survivors.{survivors}
-use Rattle.recovery.specs.code.PartnersCode.{takesByAfter}
-use Rattle.recovery.proofs.Laws.PartnersCode.{partner-here, partner-on, partner-none, found, after-entry}
+use Rattle.recovery.specs.code.PartnersCode.{takesBy, partnerBy}
+use Rattle.recovery.proofs.Laws.PartnersCode.{found}
 use borrow.Author.Needs.{needs}
 use Rattle.recovery.proofs.partners.partner_of.Statement.{statement}
 use Rattle.recovery.proofs.partners.partner_of.Tie as tie
 
 abbrev Inv-loop : tie.InvT-loop
-Inv-loop table g lost scratch item node others passed₀ passed =
-    (passed ≤ g .nodes - 1) × (first (takesByAfter g (survivors lost (view g table)) scratch item node) passed ≡ passed)
+Inv-loop table g lost scratch item node nodes cursor₀ cursor =
+    Searching (takesBy g (survivors lost (view g table)) scratch item) (g .nodes) node cursor
 
 abbrev μ-loop : tie.MeasureT-loop
-μ-loop table g lost scratch item node others passed₀ passed = g .nodes - 1 - passed
+μ-loop table g lost scratch item node nodes cursor₀ cursor = cursor .untried
+
+loop-holds : tie.Need-loop-holds Inv-loop μ-loop
+loop-holds c = search-starts _ _ _ (c .after .ensures)
 
 can-take-requires : tie.Need-can-take-requires Inv-loop μ-loop
-can-take-requires c κs =
-    let l = c .before in
-    let o = l .before .before .before .before .before in
-    after-entry (o .args .g) (o .args .table .now) (o .args .node) (o .args .item) (o .pre) _ (omega (arith, l .loop-test .taken)) (c .node-after .ensures)
+can-take-requires c κs = (search-there _ _ _ (c .before .before .loop .inv) (c .if1 .taken), search needs)
 
 returns : tie.Need-returns Inv-loop μ-loop
+unfolding partnerBy
 returns c =
-    let n = c .before .before in
-    let l = n .before in
-    let o = l .before .before .before .before .before in
-    found _ _ _ _ _ (search needs) (o .pre .0) (partner-here _ _ _ _ _ _ (l .before .loop .inv .1) (n .node-after .ensures) (c .before .can-take .ensures) (l .loop-test .taken) (c .if1 .taken))
+    let l = c .before .before in
+    let o = l .before .before .before .before .before .before in
+    found (o .args .g) _ _ _ _ (search (needs, o))
+    (search-found _ _ _ (l .before .before .loop .inv) (l .if1 .taken) (c .before .can-take .ensures) (c .if2 .taken))
 
 loop-again : tie.Need-loop-again Inv-loop μ-loop
 loop-again c =
-    let n = c .before .before in
-    (search needs, partner-on _ _ _ _ _ _ (n .before .before .loop .inv .1) (n .node-after .ensures) (c .before .can-take .ensures) (c .if1 .left))
+    let l = c .before .before .before in
+    search-on _ _ _ (l .before .before .loop .inv) (l .if1 .taken) (c .before .before .can-take .ensures) (c .before .if2 .left) (c .step .ensures)
 
 returns-2 : tie.Need-returns-2 Inv-loop μ-loop
+unfolding partnerBy
 returns-2 c =
-    let i = c .before .loop .inv in
-    let h = c .before .before .before .before .before .pre .0 in
-    found _ _ _ _ _ (search needs) h (partner-none _ _ _ _ _ _ h (i .1) (i .0) (c .loop-test .left))
+    found _ _ _ _ _ (search needs) (search-ends _ _ _ (c .before .before .loop .inv) (c .if1 .left))
 
 pub partner-of-spec : {M : Type 1} → statement M
 partner-of-spec =
@@ -49,12 +45,11 @@ partner-of-spec =
     (tie.spec
     Inv-loop
     μ-loop
-    (λ c. search needs)
-    (λ c. (search needs, first-starts _))
     (λ c κs. search needs)
+    loop-holds
     can-take-requires
     returns
-    (λ c. search needs)
-    (λ c. search needs)
+    (λ c κs. search needs)
+    (λ c. step-falls _ _ (c .before .before .before .if1 .taken) (c .step .ensures))
     loop-again
     returns-2)

@@ -1,8 +1,8 @@
 -- `next_node` meets its contract: back to 0, or one on. Assumes nothing.
-use Rattle.homes.proofs.Laws.HomeCode.{next-wraps, next-follows}
+use Rattle.counting.proofs.Laws.Cyclic.{next-wraps, next-follows}
 use borrow.Author.Needs.{needs}
-use Rattle.homes.proofs.home.next_node.Statement.{statement}
-use Rattle.homes.proofs.home.next_node.Tie as tie
+use Rattle.counting.proofs.cyclic.next_node.Statement.{statement}
+use Rattle.counting.proofs.cyclic.next_node.Tie as tie
 
 returns : tie.Need-returns
 returns c = next-wraps _ _ (c .if1 .taken)
