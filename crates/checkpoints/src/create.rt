@@ -1,6 +1,5 @@
 // Create: the lowest dirty item gets its two copies of the new point.
 ghost use mathlib.Core.Path.{_≡_};
-ghost use Prim.Native.Nat.{_<_};
 ghost use Rattle.table.specs.Stores.{Stored};
 ghost use Rattle.table.specs.View.{view};
 ghost use Rattle.table.specs.Answers.{Meets};
@@ -51,7 +50,7 @@ fn bring_home(table: &mut [u64], left: u64, g: Geometry, item: u16, owner: u8, h
     )
 }
 
-// An item that has an owner is created: with a sharer, else at a home.
+// An item is created: with a sharer, else at a home.
 fn create_item(table: &mut [u64], limit: u64, g: Geometry, item: u16) -> Answer
     ensures { λ r. ⌜ Meets (itemPlan g (view g (now (table .entry))) item) limit (now (table .entry)) (now (table .exit)) r ⌝ }
 {

@@ -1,4 +1,4 @@
--- The nodes 0, 1, .. and N − 1 in cyclic order: the step from a node to the next, and the first node that passes a test.
+-- The nodes 0, 1, .. and N − 1 in cyclic order: the step from a node to the next, and the first that passes a test.
 use Prim.Native.Nat.{ℕ, _+_, _-_, _%_}
 use mathlib.Core.Bool.{Bool, cond}
 use lib.Dec.{ltb}
@@ -17,7 +17,7 @@ nodeAfter N n i = (n + 1 + i) % N
 unfoldable pub testAfter : (ℕ → Bool) → ℕ → ℕ → ℕ → Bool
 testAfter test N n i = test (nodeAfter N n i)
 
--- "the first .. node after n, cyclically, n excluded, that" passes the test; n itself if there is none, or if n is no node
+-- "the first .. node after n, cyclically, n excluded, that" passes; n itself if there is none, or if n is no node
 unfoldable pub firstAfter : (ℕ → Bool) → ℕ → ℕ → ℕ
 firstAfter test N n = cond (ltb n N) (nodeAfter N n (first (testAfter test N n) (N - 1))) n
 

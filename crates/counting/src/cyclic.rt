@@ -27,7 +27,7 @@ pub fn next_node(nodes: u8, node: u8) -> u8
     next as u8
 }
 
-// The start of a search: all other nodes are to be tried, the next one first. After a number that is no node's, none is.
+// The start of a search: all other nodes are to be tried, the next one first; after a number that is no node's, none.
 pub fn after(nodes: u8, node: u8) -> Cursor
     ensures { λ r. ⌜ r ≡ cursorAfter nodes node ⌝ }
 {

@@ -2,9 +2,10 @@
 ghost use mathlib.Core.Path.{_≡_};
 ghost use Rattle.table.specs.Stores.{Stored, StoredIn};
 ghost use Rattle.table.specs.View.{view};
-ghost use Rattle.homes.specs.Home.{sharedItem, hasRoom, placeFits, fits, homeOf, droppedItem, currentLeft, arrivalOf, dropStores, arrivalChanges, homeStoresBy};
-use counting::cyclic;
+ghost use Rattle.homes.specs.Home.{sharedItem, hasRoom, placeFits, fits, homeOf, droppedItem, currentLeft};
+ghost use Rattle.homes.specs.Home.{arrivalOf, dropStores, arrivalChanges, homeStoresBy};
 use crate::places::Place;
+use counting::cyclic;
 use table::geometry::Geometry;
 use table::words::INVALID;
 use table::words::SHARED;

@@ -12,7 +12,8 @@ use Rattle.counting.specs.Counting.{first}
 use Rattle.counting.specs.Cyclic.{nextNode, nodeAfter, testAfter, firstAfter, cursorAfter, cursorStep}
 use Rattle.counting.specs.declared.cyclic.Cursor.{Cursor}
 use Rattle.counting.proofs.Laws.Tests.{by-cases}
-use Rattle.counting.proofs.Laws.First.{first-starts, first-turns, first-found, first-ends, first-le, first-least, first-passes, first-none, first-ext}
+use Rattle.counting.proofs.Laws.First.{first-starts, first-turns, first-found, first-ends, first-le, first-least}
+use Rattle.counting.proofs.Laws.First.{first-passes, first-none, first-ext}
 
 -- ---- the step: a comparison
 
@@ -28,16 +29,13 @@ module _ (N n : ℕ) where
   unfolding nextNode
   next-wraps h =
       by-cases (ltb n N)
-      (λ q. let l = ltb-true n N q in let e : n + 1 ≡ N = omega arith in sym (next-mod l ∙ ap (λ k. k % N) e ∙ mod-self N))
+      (λ q. let l = ltb-true n N q in let e : n + 1 ≡ N = omega arith in
+      sym (next-mod l ∙ ap (λ k. k % N) e ∙ mod-self N))
       (λ q. rw q refl)
 
 -- ---- the nodes after n: each other node once, n at the end
 
 module _ (N n : ℕ) where
-  after-straight : (i : ℕ) → n + 1 + i < N → nodeAfter N n i ≡ n + 1 + i
-  unfolding nodeAfter
-  after-straight i l = mod-eq-of-lt {n = n + 1 + i} {m = N} l
-
   -- the steps to another node, and no others lead there
   pub record Met (m : ℕ) : Type 0 where
     pub steps : ℕ
@@ -46,60 +44,63 @@ module _ (N n : ℕ) where
     pub once : (i : ℕ) → i < N - 1 → nodeAfter N n i ≡ m → i ≡ steps
 
   module _ (h : n < N) where
-    after-round : (i : ℕ) → i < N → N ≤ n + 1 + i → nodeAfter N n i ≡ n + 1 + i - N
-    unfolding nodeAfter
-    after-round i k l =
-        let e : n + 1 + i ≡ n + 1 + i - N + N = omega arith in
-        ap (λ m. m % N) e ∙ add-mod-right (n + 1 + i - N) N ∙ mod-eq-of-lt {n = n + 1 + i - N} {m = N} (omega arith)
-
     after-below : (i : ℕ) → nodeAfter N n i < N
     unfolding nodeAfter
     after-below i = mod-lt (n + 1 + i) {m = N} (omega arith)
-
-    -- the step from the node i + 1 steps after n gives the next one
-    after-steps : (i : ℕ) → nextNode N (nodeAfter N n i) ≡ nodeAfter N n (i + 1)
-    unfolding nodeAfter
-    after-steps i =
-        next-mod N (nodeAfter N n i) (after-below i) ∙ mod-add-mod (n + 1 + i) N 1
-        ∙ ap (λ k. k % N) (omega arith)
 
     -- the first step
     after-starts : nextNode N n ≡ nodeAfter N n 0
     unfolding nodeAfter
     after-starts = next-mod N n h ∙ ap (λ k. k % N) (omega arith)
 
-    after-other : (i : ℕ) → i < N - 1 → nodeAfter N n i ≢ n
-    after-other i l e =
+    -- the step from the node i + 1 steps after n gives the next one
+    after-steps : (i : ℕ) → nextNode N (nodeAfter N n i) ≡ nodeAfter N n (i + 1)
+    unfolding nodeAfter
+    after-steps i =
+        next-mod N (nodeAfter N n i) (after-below i) ∙ mod-add-mod (n + 1 + i) N 1 ∙ ap (λ k. k % N) (omega arith)
+
+    -- straight on, or once round
+    after-ways :
+        {R : Type 0} (i : ℕ) → i < N → (n + 1 + i < N → nodeAfter N n i ≡ n + 1 + i → R)
+        → (nodeAfter N n i + N ≡ n + 1 + i → R) → R
+    unfolding nodeAfter
+    after-ways i l straight round =
         by-cases (ltb (n + 1 + i) N)
-        (λ q. let s = after-straight i (ltb-true _ _ q) in omega arith)
-        (λ q. let k = ltb-false (n + 1 + i) N q in let s = after-round i (omega arith) k in omega arith)
+        (λ q. let k = ltb-true (n + 1 + i) N q in straight k (mod-eq-of-lt {n = n + 1 + i} {m = N} k))
+        (λ q. let k = ltb-false (n + 1 + i) N q in
+        let j = n + 1 + i - N in
+        let e : n + 1 + i ≡ j + N = omega arith in
+        let r = ap (λ m. m % N) e ∙ add-mod-right j N ∙ mod-eq-of-lt {n = j} {m = N} (omega arith) in
+        round (omega arith))
+
+    after-other : (i : ℕ) → i < N - 1 → nodeAfter N n i ≢ n
+    after-other i l e = after-ways i (omega arith) (λ k s. omega arith) (λ s. omega arith)
 
     after-all : nodeAfter N n (N - 1) ≡ n
-    after-all = after-round (N - 1) (omega arith) (omega arith) ∙ omega arith
+    after-all = after-ways (N - 1) (omega arith) (λ k s. omega arith) (λ s. omega arith)
 
     after-once : (i j : ℕ) → i < N → j < N → nodeAfter N n i ≡ nodeAfter N n j → i ≡ j
     after-once i j k l e =
-        by-cases (ltb (n + 1 + i) N)
-        (λ p. let a = ltb-true (n + 1 + i) N p in let s = after-straight i a in by-cases (ltb (n + 1 + j) N)
-        (λ q. let b = ltb-true (n + 1 + j) N q in let t = after-straight j b in omega arith)
-        (λ q. let b = ltb-false (n + 1 + j) N q in let t = after-round j l b in omega arith))
-        (λ p. let a = ltb-false (n + 1 + i) N p in let s = after-round i k a in by-cases (ltb (n + 1 + j) N)
-        (λ q. let b = ltb-true (n + 1 + j) N q in let t = after-straight j b in omega arith)
-        (λ q. let b = ltb-false (n + 1 + j) N q in let t = after-round j l b in omega arith))
+        after-ways i k
+        (λ a s. after-ways j l (λ b t. omega arith) (λ t. omega arith))
+        (λ s. after-ways j l (λ b t. omega arith) (λ t. omega arith))
 
     abbrev met-by : (m k : ℕ) → k < N - 1 → nodeAfter N n k ≡ m → Met m
     met-by m k l e = record {
-      steps = k; few = l; reach = e; once = λ i h q. after-once i k (omega arith) (omega arith) (q ∙ sym e) }
+      steps = k;
+      few = l;
+      reach = e;
+      once = λ i h q. after-once i k (omega arith) (omega arith) (q ∙ sym e);
+    }
 
     -- each other node is met once
     pub after-meets : (m : ℕ) → m < N → m ≢ n → Met m
     after-meets m l d =
         by-cases (ltb n m)
-        (λ q. let k = ltb-true n m q in
-        met-by m (m - n - 1) (omega arith) (after-straight (m - n - 1) (omega arith) ∙ omega arith))
-        (λ q. let k : m < n = omega (arith, ltb-false n m q) in
-        met-by m (m + N - n - 1) (omega arith)
-        (after-round (m + N - n - 1) (omega arith) (omega arith) ∙ omega arith))
+        (λ q. let k = ltb-true n m q in let i = m - n - 1 in
+        met-by m i (omega arith) (after-ways i (omega arith) (λ a s. omega arith) (λ s. omega arith)))
+        (λ q. let k = ltb-false n m q in let i = m + N - n - 1 in
+        met-by m i (omega arith) (after-ways i (omega arith) (λ a s. omega arith) (λ s. omega arith)))
 
 -- ---- what a search finds
 
@@ -112,7 +113,7 @@ module _ (test : ℕ → Bool) (N n : ℕ) where
   first-after-outside h = rw (le-ltb n N h) refl
 
   -- the node found: another one, that passes, and none that is met before it does
-  pub record FirstAfter (m : ℕ) : Type 0 where
+  pub record FoundAfter (m : ℕ) : Type 0 where
     pub there : m < N
     pub other : m ≢ n
     pub passes : test m ≡ true
@@ -143,7 +144,7 @@ module _ (test : ℕ → Bool) (N n : ℕ) where
           | no q ↦ absurd (after-other N n h passed (omega arith) (sym first-after-there ∙ e))
         ]
 
-    found-there : firstAfter test N n ≢ n → FirstAfter (firstAfter test N n)
+    found-there : firstAfter test N n ≢ n → FoundAfter (firstAfter test N n)
     unfolding testAfter
     found-there d =
         let l = passed-some d in
@@ -172,7 +173,7 @@ module _ (test : ℕ → Bool) (N n : ℕ) where
         (λ i l. f (nodeAfter N n i) (after-below N n h i) (after-other N n h i l)))
         ∙ after-all N n h
 
-  pub after-found : firstAfter test N n ≢ n → FirstAfter (firstAfter test N n)
+  pub after-found : firstAfter test N n ≢ n → FoundAfter (firstAfter test N n)
   after-found d =
       elim (decLt n N) [ yes h ↦ found-there h d | no h ↦ absurd (d (first-after-outside (omega arith))) ]
 
@@ -228,11 +229,21 @@ module _ (test : ℕ → Bool) (N n : ℕ) {c : Cursor} where
   pub search-starts : c ≡ cursorAfter N n → Searching test N n c
   unfolding cursorAfter
   search-starts e = rw e (elim (decLt n N) [
-      | yes h ↦ rw (lt-ltb n N h) (record {
-          tried = 0; some = λ _. h; all = λ _. omega arith; here = λ _. after-starts N n h; none = first-starts _ })
-      | no h ↦ rw (le-ltb n N (omega arith)) (record {
-          tried = 0; some = λ l. omega arith; all = λ l. omega arith; here = λ l. absurd (h l); none = first-starts _ })
-    ])
+    | yes h ↦ rw (lt-ltb n N h) (record {
+      tried = 0;
+      some = λ _. h;
+      all = λ _. omega arith;
+      here = λ _. after-starts N n h;
+      none = first-starts _;
+    })
+    | no h ↦ rw (le-ltb n N (omega arith)) (record {
+      tried = 0;
+      some = λ l. omega arith;
+      all = λ l. omega arith;
+      here = λ l. absurd (h l);
+      none = first-starts _;
+    })
+  ])
 
   module _ (s : Searching test N n c) where
     module _ (l : 0 < c .untried) where
@@ -250,7 +261,8 @@ module _ (test : ℕ → Bool) (N n : ℕ) {c : Cursor} where
             let h = s .some l in
             let a = s .all h in
             s .here h
-            ∙ ap (nodeAfter N n) (sym (first-found (testAfter test N n) (s .tried) (N - 1) (s .none) (tried-test e) (omega arith)))
+            ∙ ap (nodeAfter N n)
+            (sym (first-found (testAfter test N n) (s .tried) (N - 1) (s .none) (tried-test e) (omega arith)))
             ∙ sym (first-after-there test N n h)
 
         pub search-on : passes ≡ false → {d : Cursor} → d ≡ cursorStep N c → Searching test N n d
@@ -273,7 +285,8 @@ module _ (test : ℕ → Bool) (N n : ℕ) {c : Cursor} where
           | yes h ↦
               (let a = s .all h in
               sym (first-after-there test N n h
-              ∙ ap (nodeAfter N n) (sym (first-ends (testAfter test N n) (s .tried) (N - 1) (s .none) (omega arith) (omega arith)))
+              ∙ ap (nodeAfter N n)
+              (sym (first-ends (testAfter test N n) (s .tried) (N - 1) (s .none) (omega arith) (omega arith)))
               ∙ after-all N n h))
           | no h ↦ sym (first-after-outside test N n (omega arith))
         ]

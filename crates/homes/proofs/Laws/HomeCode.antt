@@ -1,5 +1,5 @@
 -- The ways of the code that looks for a home and stores there: a law for each, over what the code has read.
-use Prim.Native.Nat.{ℕ, _+_, _-_, _≤_, _<_}
+use Prim.Native.Nat.{ℕ, _+_, _≤_, _<_}
 use mathlib.Core.Path.{_≡_, refl, sym, ap, _∙_}
 use mathlib.Core.Bool.{Bool, true, false, cond, _&&_, _||_}
 use mathlib.Core.List.{List, [], _∷_, _++_, map}
@@ -18,7 +18,8 @@ use Rattle.homes.specs.declared.places.Place.{Place}
 use Rattle.homes.specs.declared.places.Place.the-variants.{Current, Kept}
 use Rattle.homes.specs.declared.home.Arrival.{Arrival}
 use Rattle.homes.specs.Places.{codeOf, sharedIn}
-use Rattle.homes.specs.Home.{sharedAt, sharedItem, hasRoom, placeFits, fits, droppedItem, currentLeft, arrivalOf, dropStores, arrivalChanges, takeoverStores, homeStoresBy}
+use Rattle.homes.specs.Home.{sharedAt, sharedItem, hasRoom, placeFits, fits, droppedItem, currentLeft, arrivalOf}
+use Rattle.homes.specs.Home.{dropStores, arrivalChanges, takeoverStores, homeStoresBy}
 
 -- ---- the lowest Shared copy
 

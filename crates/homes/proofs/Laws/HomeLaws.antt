@@ -1,4 +1,5 @@
--- "A copy is refused a home exactly if no other live node can take it", and what the home found is: the laws of the cyclic search, for `fits`.
+-- "A copy is refused a home exactly if no other live node can take it", and what the home found is: the laws of the
+-- cyclic search, for `fits`.
 use Prim.Native.Nat.{ℕ, _<_}
 use mathlib.Core.Path.{_≡_}
 use mathlib.Core.Logic.{_≢_}

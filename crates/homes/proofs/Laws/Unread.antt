@@ -1,6 +1,6 @@
 -- "A dead node's words, mark apart, are never read", by Evict: its home, its refusals and its stores do not rest on
 -- them; and the plan of a call does not if what it admits and what it does do not.
-use Prim.Native.Nat.{ℕ, _-_}
+use Prim.Native.Nat.{ℕ}
 use mathlib.Core.Path.{_≡_, refl, ap, ap₂, _∙_}
 use mathlib.Core.Bool.{Bool, true, cond, not, _&&_, _||_}
 use mathlib.Core.List.{List}
@@ -25,7 +25,8 @@ use Rattle.homes.specs.declared.places.Place.{Place}
 use Rattle.homes.specs.declared.places.Place.the-variants.{Current, Kept}
 use Rattle.homes.specs.Admission.{admissionOf, frameFull, frameAdmission, planAdmitted, planChecked, planBy}
 use Rattle.homes.proofs.Laws.Admission.{Admits, admission-tells}
-use Rattle.homes.specs.Home.{sharedAt, sharedItem, hasRoom, placeFits, fits, homeOf, noHome, droppedItem, arrivalOf, homeStoresBy, homeStores}
+use Rattle.homes.specs.Home.{sharedAt, sharedItem, hasRoom, placeFits, fits, homeOf, noHome, droppedItem}
+use Rattle.homes.specs.Home.{arrivalOf, homeStoresBy, homeStores}
 use Rattle.homes.proofs.Laws.HomeLaws.{home-fits}
 use Rattle.homes.specs.Places.{codeIn, valueIn}
 use Rattle.homes.proofs.Laws.EvictCode.{evict-admits}

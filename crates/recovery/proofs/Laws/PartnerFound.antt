@@ -123,7 +123,8 @@ module _ (g : Geometry) (saved : ℕ → ℕ) (w u : View) (plain : Plain g save
     pub partner-found : Found (partnerOf g u b a)
     unfolding partnerOf takes
     partner-found =
-        let f = after-found (takes g u b) (g .nodes) a (λ e. some-takes (after-none (takes g u b) (g .nodes) a (o .within) e)) in
+        let some : partnerOf g u b a ≢ a = λ e. some-takes (after-none (takes g u b) (g .nodes) a (o .within) e) in
+        let f = after-found (takes g u b) (g .nodes) a some in
         let t = both (live u (partnerOf g u b a)) (f .passes) in
         let t′ = both (eqb (current (u .entry (partnerOf g u b a) b)) invalid) (t .1) in
         record {

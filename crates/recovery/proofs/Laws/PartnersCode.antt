@@ -28,9 +28,11 @@ use Rattle.survivors.specs.declared.lost.Lost.{Lost}
 use Rattle.survivors.specs.declared.lost.Lost.the-variants.{Nobody, Node}
 use Rattle.survivors.specs.Survivors.{survivors}
 use Rattle.survivors.proofs.Laws.SurvivorsCode.{survivor-entry}
-use Rattle.recovery.specs.Numbering.{single, holderOf, takes, partnerOf, partnerChanges, partnerFrom, partnerStores, staged, partnersStores}
+use Rattle.recovery.specs.Numbering.{single, holderOf, takes, partnerOf, partnerChanges, partnerFrom}
+use Rattle.recovery.specs.Numbering.{partnerStores, staged, partnersStores}
 use Rattle.recovery.proofs.Laws.Followed.{stored-any, view-left, Entered, entered-changes, entered-within, survivors-entered, stage-follows}
-use Rattle.recovery.specs.code.PartnersCode.{AgreesTo, Counts, usedWith, takesBy, partnerBy, UsedBy, Filled, Ready, Turned, Found, FilledFrom}
+use Rattle.recovery.specs.code.PartnersCode.{AgreesTo, Counts, usedWith, takesBy, partnerBy, UsedBy, Filled}
+use Rattle.recovery.specs.code.PartnersCode.{Ready, Turned, Found, FilledFrom}
 use Rattle.recovery.proofs.Laws.PartnersCounts.{agrees-start, agrees-turn, partner-agrees}
 
 -- ---- the test and the search, by the table and by the scratch
@@ -231,7 +233,8 @@ item-other g lost b {left} {t} {s} e k = record {
 -- a partner's stores, those at whatever node takes it being right
 pub all-partner :
     {p : Store → Type 0} (g : Geometry) (b : ℕ) (w : View)
-    → ((n : ℕ) (e : Entry) → n < g .nodes → All p (map (entryStore n b) (partnerChanges e))) → All p (partnerStores g b w)
+    → ((n : ℕ) (e : Entry) → n < g .nodes → All p (map (entryStore n b) (partnerChanges e)))
+    → All p (partnerStores g b w)
 unfolding partnerStores single partnerFrom partnerOf
 all-partner {p} g b w right = go (eqb (count (copy w b) (g .nodes)) 1) refl
   where

@@ -32,7 +32,8 @@ use Rattle.survivors.specs.declared.lost.Lost.{Lost}
 use Rattle.survivors.specs.Survivors.{lostStores, survivors, survivorCount, tooFew, largestNumber, closingStores}
 use Rattle.survivors.specs.Direction.{forwardIn}
 use Rattle.recovery.specs.Sides.{copyOn, hasCopy, copiesOn, itemFits, itemsFit, rollChange, rollStores}
-use Rattle.recovery.specs.Numbering.{holders, numberAt, numberChange, numberStores, single, holderOf, takes, partnerOf, partnerFrom, partnerStores, staged, partnersStores}
+use Rattle.recovery.specs.Numbering.{holders, numberAt, numberChange, numberStores, single, holderOf, takes}
+use Rattle.recovery.specs.Numbering.{partnerOf, partnerFrom, partnerStores, staged, partnersStores}
 use Rattle.recovery.specs.Recover.{followed, survivorStores, recoverStores, survivorsFormed, recoverAdmission, recoverChecked, recoverOf}
 use Rattle.recovery.proofs.Laws.Followed.{Entered}
 use Rattle.recovery.proofs.Laws.PartnersCode.{entered-staged, entered-partners}

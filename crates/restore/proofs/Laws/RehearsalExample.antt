@@ -31,7 +31,8 @@ use Rattle.homes.specs.Places.{placeBy}
 use Rattle.calls.specs.Transitions.{changeTo}
 use Rattle.entries.specs.Dirty.{ownsAt, ownerOf, dirty, dirtyItem}
 use Rattle.checkpoints.specs.Checkpoint.{commonMark, isOpen, openAdmission, liveChanges, entriesBefore, commitChange, closeChange}
-use Rattle.homes.specs.Home.{sharedAt, sharedItem, hasRoom, placeFits, fits, homeOf, droppedItem, currentLeft, arrivalOf, dropStores, arrivalChanges, homeStoresBy, homeStores}
+use Rattle.homes.specs.Home.{sharedAt, sharedItem, hasRoom, placeFits, fits, homeOf, droppedItem, currentLeft}
+use Rattle.homes.specs.Home.{arrivalOf, dropStores, arrivalChanges, homeStoresBy, homeStores}
 use Rattle.calls.specs.Read.{servesAt, serverOf, fetchFrom, readStores, readValue}
 use Rattle.calls.specs.Write.{otherChanges, otherStores, ownKeep, keptAfter, ownChanges, writeStores}
 use Rattle.homes.specs.Evict.{sourceStores, movedTo, evictStores, placeAdmission}
@@ -41,7 +42,8 @@ use Rattle.checkpoints.specs.Commit.{commitStores, createdAdmission}
 use Rattle.survivors.specs.Survivors.{lostBy, survivorCount, tooFewWith, tooFew, largest, largestNumber, closingStores}
 use Rattle.recovery.specs.Sides.{copiesOn, itemFits, itemsFit, bringBack, settled, rollChange, rollStores}
 use Rattle.survivors.specs.Direction.{forwardIn}
-use Rattle.recovery.specs.Numbering.{holders, numberAfter, numberChange, numberStores, single, holderOf, takes, partnerOf, partnerChanges, partnerFrom, partnerStores, staged, partnersStores}
+use Rattle.recovery.specs.Numbering.{holders, numberAfter, numberChange, numberStores, single, holderOf, takes}
+use Rattle.recovery.specs.Numbering.{partnerOf, partnerChanges, partnerFrom, partnerStores, staged, partnersStores}
 use Rattle.recovery.specs.Recover.{followed, survivorStores, recoverStores, survivorsFormed, recoverAdmission, recoverChecked, recoverOf}
 use Rattle.restore.specs.Call.{planOf}
 

@@ -9,19 +9,27 @@ returns : tie.Need-returns
 returns c =
     let s = c .before .before in
     let i = s .before .before in
-    meets-done _ (item-shared _ _ _ (i .before .before .before .first-holder .ensures) (i .before .first-holder2 .ensures) (i .if1 .taken)) (s .turn-sharer .ensures)
+    meets-done _
+    (item-shared _ _ _ (i .before .before .before .first-holder .ensures) (i .before .first-holder2 .ensures)
+    (i .if1 .taken))
+    (s .turn-sharer .ensures)
 
 returns-2 : tie.Need-returns-2
 returns-2 c =
     let i = c .before .before .before in
-    meets-refused _ _ (item-none _ _ _ (i .before .before .before .first-holder .ensures) (i .before .first-holder2 .ensures) (i .if1 .left) (c .before .home-of .ensures) (c .if2 .taken))
+    meets-refused _ _
+    (item-none _ _ _ (i .before .before .before .first-holder .ensures) (i .before .first-holder2 .ensures)
+    (i .if1 .left) (c .before .home-of .ensures) (c .if2 .taken))
 
 returns-3 : tie.Need-returns-3
 returns-3 c =
     let s = c .before .before in
     let e = s .before .before in
     let i = e .before .before .before in
-    meets-done _ (item-taken _ _ _ (i .before .before .before .first-holder .ensures) (i .before .first-holder2 .ensures) (i .if1 .left) (e .before .home-of .ensures) (e .if2 .left)) (s .bring-home .ensures)
+    meets-done _
+    (item-taken _ _ _ (i .before .before .before .first-holder .ensures) (i .before .first-holder2 .ensures)
+    (i .if1 .left) (e .before .home-of .ensures) (e .if2 .left))
+    (s .bring-home .ensures)
 
 pub create-item-spec : {M : Type 1} → statement M
 create-item-spec =

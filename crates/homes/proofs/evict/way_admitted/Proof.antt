@@ -15,12 +15,16 @@ returns-2 c =
 returns-3 : tie.Need-returns-3
 returns-3 c =
     let k = c .before .before .before .before .before in
-    way-none _ _ _ _ _ (k .before .state-at .ensures) (k .code-of .ensures) (c .before .before .before .before .if1 .left) (c .before .before .before .shared-in .ensures) (c .before .before .if2 .left) (c .before .home-of .ensures) (c .if3 .taken)
+    way-none _ _ _ _ _ (k .before .state-at .ensures) (k .code-of .ensures)
+    (c .before .before .before .before .if1 .left) (c .before .before .before .shared-in .ensures)
+    (c .before .before .if2 .left) (c .before .home-of .ensures) (c .if3 .taken)
 
 returns-4 : tie.Need-returns-4
 returns-4 c =
     let k = c .before .before .before .before .before in
-    way-goes _ _ _ _ _ (k .before .state-at .ensures) (k .code-of .ensures) (c .before .before .before .before .if1 .left) (c .before .before .before .shared-in .ensures) (c .before .before .if2 .left) (c .before .home-of .ensures) (c .if3 .left)
+    way-goes _ _ _ _ _ (k .before .state-at .ensures) (k .code-of .ensures)
+    (c .before .before .before .before .if1 .left) (c .before .before .before .shared-in .ensures)
+    (c .before .before .if2 .left) (c .before .home-of .ensures) (c .if3 .left)
 
 pub way-admitted-spec : {M : Type 1} → statement M
 way-admitted-spec =

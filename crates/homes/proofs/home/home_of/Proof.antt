@@ -7,7 +7,8 @@ use Rattle.homes.proofs.home.home_of.Statement.{statement}
 use Rattle.homes.proofs.home.home_of.Tie as tie
 
 abbrev Inv-loop : tie.InvT-loop
-Inv-loop table g place node item nodes cursor₀ cursor = Searching (fits g (view g table) place item) (g .nodes) node cursor
+Inv-loop table g place node item nodes cursor₀ cursor =
+    Searching (fits g (view g table) place item) (g .nodes) node cursor
 
 abbrev μ-loop : tie.MeasureT-loop
 μ-loop table g place node item nodes cursor₀ cursor = cursor .untried
@@ -24,7 +25,8 @@ returns c =
 loop-again : tie.Need-loop-again Inv-loop μ-loop
 loop-again c =
     let l = c .before .before .before in
-    search-on _ _ _ (l .before .before .loop .inv) (l .if1 .taken) (c .before .before .can-take .ensures) (c .before .if2 .left) (c .step .ensures)
+    search-on _ _ _ (l .before .before .loop .inv) (l .if1 .taken) (c .before .before .can-take .ensures)
+    (c .before .if2 .left) (c .step .ensures)
 
 returns-2 : tie.Need-returns-2 Inv-loop μ-loop
 unfolding homeOf

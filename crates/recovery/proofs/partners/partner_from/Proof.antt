@@ -19,7 +19,9 @@ state-in-requires c κs =
     let p = i .before in
     let o = p .before .before .before .before .before in
     let a = o .args in
-    (found-there (a .g) (survivors (a .lost) (view (a .g) (a .table .now))) (a .scratch .now) (a .item) (a .node) (p .partner-of .ensures .is) (i .if1 .left), (o .pre .1 .1, o .pre .0 .long))
+    let w = survivors (a .lost) (view (a .g) (a .table .now)) in
+    let is = p .partner-of .ensures .is in
+    (found-there (a .g) w (a .scratch .now) (a .item) (a .node) is (i .if1 .left), (o .pre .1 .1, o .pre .0 .long))
 
 used-with-requires : tie.Need-used-with-requires
 used-with-requires c κs =
@@ -31,7 +33,9 @@ slice-write-scratch c =
     let p = c .before .before .before .before .before .before in
     let o = p .before .before .before .before .before in
     let a = o .args in
-    found-room (a .g) (survivors (a .lost) (view (a .g) (a .table .now))) (a .scratch .now) (a .item) (a .node) (p .partner-of .ensures .is) (c .before .before .before .before .before .if1 .left) (o .pre .0 .room)
+    let w = survivors (a .lost) (view (a .g) (a .table .now)) in
+    found-room (a .g) w (a .scratch .now) (a .item) (a .node) (p .partner-of .ensures .is)
+    (c .before .before .before .before .before .if1 .left) (o .pre .0 .room)
 
 returns-2 : tie.Need-returns-2
 returns-2 c =
@@ -40,7 +44,9 @@ returns-2 c =
     let p = s .before .before .before in
     let o = p .before .before .before .before .before in
     let a = o .args in
-    from-made (a .g) (a .lost) (a .item) (a .node) (o .pre .0) (p .partner-of .ensures .is) (o .pre .1 .1) (s .before .before .if1 .left) (s .state-in .ensures) (u .before .word .ensures) (u .used-with .ensures) (c .before .before .store-partner .ensures)
+    from-made (a .g) (a .lost) (a .item) (a .node) (o .pre .0) (p .partner-of .ensures .is) (o .pre .1 .1)
+    (s .before .before .if1 .left) (s .state-in .ensures) (u .before .word .ensures) (u .used-with .ensures)
+    (c .before .before .store-partner .ensures)
 
 pub partner-from-spec : {M : Type 1} → statement M
 partner-from-spec =

@@ -1,5 +1,6 @@
 -- `partner_of` meets its contract: the nodes tried cannot take the partner. Assumes nothing.
-use Rattle.counting.proofs.Laws.Cyclic.{Searching, search-starts, search-there, search-found, search-on, search-ends, step-falls}
+use Rattle.counting.proofs.Laws.Cyclic.{Searching, search-starts, search-there, search-found, search-on, search-ends}
+use Rattle.counting.proofs.Laws.Cyclic.{step-falls}
 use Rattle.table.specs.View.{view}
 use Rattle.survivors.specs.Survivors.{survivors}
 use Rattle.recovery.specs.code.PartnersCode.{takesBy, partnerBy}
@@ -32,7 +33,8 @@ returns c =
 loop-again : tie.Need-loop-again Inv-loop μ-loop
 loop-again c =
     let l = c .before .before .before in
-    search-on _ _ _ (l .before .before .loop .inv) (l .if1 .taken) (c .before .before .can-take .ensures) (c .before .if2 .left) (c .step .ensures)
+    search-on _ _ _ (l .before .before .loop .inv) (l .if1 .taken) (c .before .before .can-take .ensures)
+    (c .before .if2 .left) (c .step .ensures)
 
 returns-2 : tie.Need-returns-2 Inv-loop μ-loop
 unfolding partnerBy
