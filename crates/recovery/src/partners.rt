@@ -3,6 +3,7 @@
 ghost use mathlib.Core.Path.{_≡_};
 ghost use Prim.Native.Nat.{_≤_, _<_, _-_};
 ghost use lib.ListN.{length};
+ghost use Rattle.table.specs.Geometry.{wordsOf};
 ghost use Rattle.table.specs.Stores.{StoredIn};
 ghost use Rattle.table.specs.View.{view};
 ghost use Rattle.table.specs.Words.{currentOf, sharedCK};
@@ -74,9 +75,10 @@ fn can_take(table: &[u64], g: Geometry, lost: Lost, scratch: &[u64], item: u16, 
     (current == words::INVALID) & (used < frames)
 }
 
-// The first node after a copy's node, cyclically, that can take its partner; the copy's node itself if none can.
+// The first node after a copy's node, cyclically, that can take its partner; the copy's node itself if none can, or if
+// it is no node of the table.
 fn partner_of(table: &[u64], g: Geometry, lost: Lost, scratch: &[u64], item: u16, node: u8) -> u8
-    requires { ⌜ HasEntry g (now table) node item ⌝ }
+    requires { ⌜ (item < g .items) × (wordsOf g ≤ length (now table)) ⌝ }
     ensures { λ r. ⌜ Found g (survivors lost (view g (now (table .entry)))) (now (scratch .entry)) item node r ⌝ }
 {
     let nodes = g.nodes;

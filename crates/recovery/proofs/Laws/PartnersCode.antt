@@ -47,13 +47,13 @@ module _ (g : Geometry) (w : View) (s : List ℕ) (b : ℕ) where
   partner-same a n = first-after-ext (takesBy g w s b) (takes g w b) (g .nodes) n (takes-same a)
 
   -- the partner found
-  record Taker (n p : ℕ) : Type 0 where
+  record Taker (p : ℕ) : Type 0 where
     pub there : p < g .nodes
     pub alive : live w p ≡ true
     pub free : current (w .entry p b) ≡ invalid
     pub few : getD s p 0 < setFrames g
 
-  partner-takes : (n : ℕ) → (partnerBy g w s b n ≡ n → ⊥) → Taker n (partnerBy g w s b n)
+  partner-takes : (n : ℕ) → (partnerBy g w s b n ≡ n → ⊥) → Taker (partnerBy g w s b n)
   unfolding partnerBy takesBy
   partner-takes n d =
       let p = partnerBy g w s b n in
@@ -64,8 +64,8 @@ module _ (g : Geometry) (w : View) (s : List ℕ) (b : ℕ) where
 
   -- as the code finds it
   module _ (n : ℕ) {p : ℕ} (e : p ≡ partnerBy g w s b n) (d : p ≡ n → ⊥) where
-    found-takes : Taker n p
-    found-takes = subst (Taker n) (sym e) (partner-takes n (λ z. d (e ∙ z)))
+    found-takes : Taker p
+    found-takes = subst Taker (sym e) (partner-takes n (λ z. d (e ∙ z)))
 
     pub found-there : p < g .nodes
     found-there = found-takes .there
@@ -153,7 +153,7 @@ module _ (g : Geometry) (lost : Lost) (b n : ℕ) {left p : ℕ} {t s : List ℕ
     size = length-set s p used;
   }
     where
-      taker : Taker g (survivors lost (view g t)) s b n p
+      taker : Taker g (survivors lost (view g t)) s b p
       taker = found-takes g (survivors lost (view g t)) s b n e d
 
       entered : All (Entered g) (map (entryStore p b) (partnerChanges (view g t .entry n b)))
