@@ -20,7 +20,7 @@ use Rattle.entries.proofs.Laws.Kinds.{Kind, clean, dirty, created, copy-at}
 use Rattle.entries.proofs.Laws.SoundFacts.{SoundTable}
 use Rattle.homes.specs.declared.places.Place.the-variants.{Current}
 use Rattle.entries.specs.Dirty.{owns, ownsAt, ownerOf, dirtyItem}
-use Rattle.homes.specs.Home.{hasRoom, placeFits, fits, homeOf, droppedItem}
+use Rattle.homes.specs.Home.{hasRoom, placeFits, homeOf, droppedItem}
 use Rattle.homes.proofs.Laws.HomeLaws.{home-fits}
 use Rattle.homes.proofs.Laws.EvictLeaves.{drops-shared}
 use Rattle.checkpoints.specs.Create.{sharesAt, sharerOf, hasSharer, precommit2Stores, createItem, createStores, noPartner, createPlan}
@@ -104,14 +104,13 @@ module _ (g : Geometry) (v : View) (b : ℕ) where
     room : hasRoom g v h b ≡ true
 
   home-tells : noPartner g v b ≡ false → hasSharer g v b ≡ false → Taking (homeOf g v Current (ownerOf g v b) b)
-  unfolding noPartner fits placeFits
+  unfolding noPartner placeFits
   home-tells e q =
       let h : ℕ = homeOf g v Current (ownerOf g v b) b in
       let f = home-fits g v Current (ownerOf g v b) b (and-no-right (not (hasSharer g v b)) (rw q refl) e) in
-      let n : Live g v h = test-live g v h (f .there) (f .alive) in
-      let t = both (live v h) (f .takes) .1 in
-      let p = both (eqb (current (v .entry h b)) invalid) (other-holds (eqb (current (v .entry h b)) shared) t (none-shares q h n)) in
-      record { node = n; other = f .other; place = eqb-true _ invalid (p .0); room = p .1 }
+      let t = none-shares q h (f .node) in
+      let p = both (eqb (current (v .entry h b)) invalid) (other-holds (eqb (current (v .entry h b)) shared) (f .takes) t) in
+      record { node = f .node; other = f .found .other; place = eqb-true _ invalid (p .0); room = p .1 }
 
 -- a home drops a Shared copy of another item
 module _ (g : Geometry) (v : View) (h b : ℕ) where

@@ -27,14 +27,14 @@ use Rattle.entries.proofs.Laws.CheckFacts.{Accepted, accepted-facts}
 use Rattle.homes.specs.declared.places.Place.{Place}
 use Rattle.homes.specs.declared.places.Place.the-variants.{Current, Kept}
 use Rattle.homes.specs.Places.{codeIn}
-use Rattle.homes.specs.Home.{sharedAt, sharedItem, hasRoom, placeFits, fits, homeOf, droppedItem, currentLeft, arrivalOf, dropStores, arrivalChanges, homeStoresBy, homeStores}
+use Rattle.homes.specs.Home.{sharedAt, sharedItem, hasRoom, placeFits, homeOf, droppedItem, currentLeft, arrivalOf, dropStores, arrivalChanges, homeStoresBy, homeStores}
 use Rattle.homes.specs.Evict.{dropped, stateLeft, sourceStores, movedTo, evictAdmission, evictStores, evictOf}
 use Rattle.homes.proofs.Laws.EvictCode.{evict-drops, evict-moves}
 use Rattle.homes.proofs.Laws.EvictTells.{Leaving, evict-leaving}
 use Rattle.homes.proofs.Laws.EvictMoves.{evict-moves-via, evict-drops-via}
 use Rattle.homes.proofs.Laws.EvictTheorem.{admits, evict-home}
 use Rattle.homes.proofs.Laws.Plans.{Carried, acted-carried}
-use Rattle.homes.proofs.Laws.Kept.{Live, live-test, test-live}
+use Rattle.homes.proofs.Laws.Kept.{Live, live-test}
 use Rattle.homes.proofs.Laws.Placed.{placed}
 use Rattle.homes.proofs.Laws.SoundTells.{copies-agree}
 use Rattle.homes.proofs.Laws.EvictDone.{leftIn, arrivedIn, homeDrops, SharedDropped, WentHome, Evicted}
@@ -237,20 +237,19 @@ module _ (t : List ℕ) (n b : ℕ) (place : Place) {g : Geometry} {value : ℕ}
     all-gone :
         dropped place (view g t .entry n b) ≡ false
         → WentHome g place n (homeOf g (view g t) place n b) b (homeDrops g (view g t) place (homeOf g (view g t) place n b) b) (view g t) (view g (after g limit ss t))
-    unfolding fits
     all-gone e =
         let h = homeOf g (view g t) place n b in
         let at = evict-home t n b place accepted e in
-        let home = test-live g (view g t) h (at .there) (at .alive) in
-        let takes : placeFits g (view g t) place b h ≡ true = both (live (view g t) h) (at .takes) .1 in
         let are : ss ≡ movedTo g (view g t) place n b h ++ sourceStores place n b (view g t .entry n b .state) =
         carried .stores-are ∙ evict-moves g (view g t) place n b (record { admitted = carried .admitted; dropping = e }) refl in
         let whole : view g (after g limit ss t) ≡ updates (movedTo g (view g t) place n b h ++ sourceStores place n b (view g t .entry n b .state)) (view g t) =
         ap (λ l. view g (after g limit l t)) are
         ∙ whole-view g t (facts .shape .long)
-        (evict-moves-via g (view g t) _ _ n h b (facts .table) closed left home (at .other) (admits t n b place accepted .item) place (leaving .coded) takes)
+        (evict-moves-via g (view g t) _ _ n h b (facts .table) closed left (at .node) (at .found .other)
+        (admits t n b place accepted .item) place (leaving .coded) (at .takes))
         limit (subst (λ l. length l ≤ limit) are all) in
-        rw whole (place-goes g (view g t) _ _ n h b (facts .table) closed left home (at .other) (admits t n b place accepted .item) place (leaving .coded) takes)
+        rw whole (place-goes g (view g t) _ _ n h b (facts .table) closed left (at .node) (at .found .other)
+        (admits t n b place accepted .item) place (leaving .coded) (at .takes))
 
     -- THE RESULT of a whole eviction
     pub evict-evicted : Evicted g place n b (view g t) (view g (after g limit ss t))

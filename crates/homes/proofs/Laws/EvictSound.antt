@@ -28,12 +28,12 @@ use Rattle.homes.specs.declared.places.Place.{Place}
 use Rattle.homes.specs.declared.places.Place.the-variants.{Current, Kept}
 use Rattle.homes.specs.declared.home.Arrival.{Arrival}
 use Rattle.homes.specs.Places.{codeIn}
-use Rattle.homes.specs.Home.{placeFits, fits, homeOf, currentLeft, dropStores, arrivalChanges, homeStoresBy, homeStores}
+use Rattle.homes.specs.Home.{placeFits, homeOf, currentLeft, dropStores, arrivalChanges, homeStoresBy, homeStores}
 use Rattle.homes.specs.Evict.{dropped, sourceStores, stateLeft, movedTo, movedStores, evictAdmission, evictStores, evictOf}
 use Rattle.homes.proofs.Laws.EvictTells.{Leaving, evict-leaving}
 use Rattle.homes.proofs.Laws.EvictTheorem.{admits, evict-home, evict-drops-keeps, evict-moves-keeps}
 use Rattle.homes.proofs.Laws.Plans.{Carried, acted-carried}
-use Rattle.homes.proofs.Laws.Kept.{Live, live-test, test-live}
+use Rattle.homes.proofs.Laws.Kept.{Live, live-test}
 use Rattle.homes.proofs.Laws.SoundTells.{formed-at}
 use Rattle.homes.proofs.Laws.SoundKept.{Off, entry-off, shape-after, kind-same, sound-held, sound-kept}
 use Rattle.homes.proofs.Laws.Placed.{placed-current, placed-kept}
@@ -210,15 +210,14 @@ module _ (t : List ℕ) (n b : ℕ) (place : Place) {g : Geometry} {value : ℕ}
         (dropped-kinds g (view g t) _ phase number n b (facts .table) left (admits t n b place accepted .item) (evict-evicted t n b place accepted limit all .drops e))
 
     moved-table : dropped place (view g t .entry n b) ≡ false → SoundTable g (view g (after g limit ss t)) phase number
-    unfolding fits
     moved-table e =
         let h = homeOf g (view g t) place n b in
         let at = evict-home t n b place accepted e in
         let m = evict-moves-keeps t n b place accepted e limit in
         sound-held g (view g t) _ phase number (facts .table) (record { marks = m .marks; forms = m .forms; frames = m .frames })
         (went-kinds g (view g t) _ phase number n b (facts .table) left (admits t n b place accepted .item) closed h (homeDrops g (view g t) place h b)
-        (test-live g (view g t) h (at .there) (at .alive)) (at .other) place (evict-evicted t n b place accepted limit all .goes e) (leaving .coded) e
-        (both (live (view g t) h) (at .takes) .1))
+        (at .node) (at .found .other) place (evict-evicted t n b place accepted limit all .goes e) (leaving .coded) e
+        (at .takes))
 
     -- the table after a whole eviction is sound, of the same phase and number
     pub evict-facts : Accepted (after g limit ss t) g phase number

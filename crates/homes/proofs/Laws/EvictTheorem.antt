@@ -7,7 +7,6 @@ use mathlib.Core.Bool.{true, false}
 use mathlib.Core.List.{List}
 use native.Mathlib.Omega.{arith}
 use native.Mathlib.Decide.{ℕ-discrete}
-use Rattle.counting.proofs.Laws.Tests.{both}
 use Rattle.table.specs.declared.geometry.Geometry.{Geometry}
 use Rattle.table.specs.Stores.{Store, after}
 use Rattle.table.specs.View.{View, view, live}
@@ -21,11 +20,11 @@ use Rattle.entries.proofs.Laws.CheckFacts.{Accepted, accepted-facts}
 use Rattle.homes.specs.declared.places.Place.{Place}
 use Rattle.homes.proofs.Laws.Admission.{Admits}
 use Rattle.homes.proofs.Laws.Plans.{Carried, acted-carried}
-use Rattle.homes.specs.Home.{fits, homeOf}
+use Rattle.homes.specs.Home.{homeOf}
 use Rattle.homes.proofs.Laws.HomeLaws.{Home, home-fits}
 use Rattle.homes.specs.Evict.{dropped, evictAdmission, evictStores, evictOf}
 use Rattle.homes.proofs.Laws.EvictCode.{evict-admits, evict-drops, evict-moves}
-use Rattle.homes.proofs.Laws.Kept.{Live, Kept, Held, live-test, test-live}
+use Rattle.homes.proofs.Laws.Kept.{Live, Kept, Held, live-test}
 use Rattle.homes.proofs.Laws.OneEntry.{OneAt, one-held}
 use Rattle.homes.proofs.Laws.EvictEntry.{Arrives}
 use Rattle.homes.proofs.Laws.EvictTells.{Leaving, evict-leaving}
@@ -90,17 +89,16 @@ module _ (t : List ℕ) (n b : ℕ) (place : Place) {g : Geometry} {value : ℕ}
       limit))
 
   module _ (goes : dropped place (view g t .entry n b) ≡ false) where
-    -- where it goes: another node, live, that can take it
+    -- where it goes: the first other node that can take it
     pub evict-home : Home g (view g t) place n b (homeOf g (view g t) place n b)
     evict-home = home-fits g (view g t) place n b (leaving .homed goes)
 
     -- any other copy: after any number of its stores
     pub evict-moves-keeps : (limit : ℕ) → Moving g n (homeOf g (view g t) place n b) b (view g t) (view g (after g limit ss t))
-    unfolding fits
     evict-moves-keeps limit =
         let h = homeOf g (view g t) place n b in
         rw (carried .stores-are, evict-moves g (view g t) place n b (record { admitted = carried .admitted; dropping = goes }) refl)
         (via-cut t (facts .shape .long)
-        (evict-moves-via g (view g t) _ _ n h b (facts .table) closed from (test-live g (view g t) h (evict-home .there) (evict-home .alive)) (evict-home .other)
-        (admits .item) place (leaving .coded) (both (live (view g t) h) (evict-home .takes) .1))
+        (evict-moves-via g (view g t) _ _ n h b (facts .table) closed from (evict-home .node) (evict-home .found .other)
+        (admits .item) place (leaving .coded) (evict-home .takes))
         limit)

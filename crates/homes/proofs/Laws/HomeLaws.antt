@@ -6,11 +6,12 @@ use mathlib.Core.Logic.{_≢_}
 use mathlib.Core.Bool.{true, false}
 use borrow.Author.Tests.{eq-eqb, eqb-true, eqb-false}
 use Rattle.counting.proofs.Laws.Tests.{both}
-use Rattle.counting.proofs.Laws.Cyclic.{after-found, after-none, none-after}
+use Rattle.counting.proofs.Laws.Cyclic.{FoundAfter, after-found, after-none, none-after}
 use Rattle.table.specs.declared.geometry.Geometry.{Geometry}
 use Rattle.table.specs.View.{View, live}
 use Rattle.homes.specs.declared.places.Place.{Place}
-use Rattle.homes.specs.Home.{fits, homeOf, noHome}
+use Rattle.homes.specs.Home.{placeFits, fits, homeOf, noHome}
+use Rattle.homes.proofs.Laws.Kept.{Live, test-live}
 
 module _ (g : Geometry) (v : View) (place : Place) (n b : ℕ) where
   -- a copy is refused a home only if no other live node can take it
@@ -24,20 +25,15 @@ module _ (g : Geometry) (v : View) (place : Place) (n b : ℕ) where
   unfolding homeOf
   none-no-home none = eq-eqb _ n (none-after (fits g v place b) (g .nodes) n none)
 
-  -- the home found: another node of the table, live, that can take the copy
+  -- the home found: the first other node that fits; so it is live, and its place can take the copy
   pub record Home (m : ℕ) : Type 0 where
-    pub there : m < g .nodes
-    pub other : m ≢ n
-    pub alive : live v m ≡ true
-    pub takes : fits g v place b m ≡ true
+    pub found : FoundAfter (fits g v place b) (g .nodes) n m
+    pub node : Live g v m
+    pub takes : placeFits g v place b m ≡ true
 
   pub home-fits : noHome g v place n b ≡ false → Home (homeOf g v place n b)
   unfolding homeOf fits
   home-fits e =
       let f = after-found (fits g v place b) (g .nodes) n (eqb-false _ n e) in
-      record {
-        there = f .there;
-        other = f .other;
-        alive = both (live v (homeOf g v place n b)) (f .passes) .0;
-        takes = f .passes;
-      }
+      let t = both (live v (homeOf g v place n b)) (f .passes) in
+      record { found = f; node = test-live g v (homeOf g v place n b) (f .there) (t .0); takes = t .1 }

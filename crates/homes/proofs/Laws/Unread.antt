@@ -28,6 +28,7 @@ use Rattle.homes.proofs.Laws.Admission.{Admits, admission-tells}
 use Rattle.homes.specs.Home.{sharedAt, sharedItem, hasRoom, placeFits, fits, homeOf, noHome, droppedItem}
 use Rattle.homes.specs.Home.{arrivalOf, homeStoresBy, homeStores}
 use Rattle.homes.proofs.Laws.HomeLaws.{home-fits}
+use Rattle.homes.proofs.Laws.Kept.{live-test}
 use Rattle.homes.specs.Places.{codeIn, valueIn}
 use Rattle.homes.proofs.Laws.EvictCode.{evict-admits}
 use Rattle.homes.specs.Evict.{movedTo, evictStores, placeAdmission, evictAdmission, evictOf}
@@ -106,7 +107,7 @@ pub home-live :
 home-live g v place n b t =
     by-cases (noHome g v place n b)
     (λ q. ap (live v) (eqb-true (homeOf g v place n b) n q) ∙ t)
-    (λ q. home-fits g v place n b q .alive)
+    (λ q. live-test g v (homeOf g v place n b) (home-fits g v place n b q .node))
 
 -- ---- Evict
 

@@ -10,7 +10,7 @@ use borrow.Author.Tests.{eqb-true, eq-eqb, ltb-true, ltb-false}
 use Rattle.counting.proofs.Laws.Tests.{both, no-both, by-cases, or-left, or-right, and-no-right}
 use Rattle.counting.specs.Counting.{one, sum, count, first}
 use Rattle.counting.proofs.Laws.Counting.{sum-ext, Only, only-counts, sum-swap, sum-count}
-use Rattle.counting.proofs.Laws.Cyclic.{after-found, after-none}
+use Rattle.counting.proofs.Laws.Cyclic.{FoundAfter, after-found, after-none}
 use Rattle.table.specs.declared.geometry.Geometry.{Geometry}
 use Rattle.table.specs.Words.{invalid, sharedCK1, sharedCK2}
 use Rattle.table.proofs.Laws.Changes.{checkpoint-code}
@@ -113,10 +113,10 @@ module _ (g : Geometry) (saved : ℕ → ℕ) (w u : View) (plain : Plain g save
           crowded (g .nodes) (g .frames) (live u) holds a (o .within) (copy-live u b a (o .holds)) own (λ n l d t. full n l d t (none n l d)),
         )
 
-    -- the partner found: another live node of the table, without the item, with a frame free
+    -- the partner found: another node of the table, the first that can take it; live, without the item, with a frame free
     pub record Found (m : ℕ) : Type 0 where
+      pub found : FoundAfter (takes g u b) (g .nodes) a m
       pub alive : Live g u m
-      pub other : m ≢ a
       pub empty : current (u .entry m b) ≡ invalid
       pub free : used g u m (setOf g b) + 1 ≤ setFrames g
 
@@ -128,8 +128,8 @@ module _ (g : Geometry) (saved : ℕ → ℕ) (w u : View) (plain : Plain g save
         let t = both (live u (partnerOf g u b a)) (f .passes) in
         let t′ = both (eqb (current (u .entry (partnerOf g u b a) b)) invalid) (t .1) in
         record {
+          found = f;
           alive = test-live g u (partnerOf g u b a) (f .there) (t .0);
-          other = f .other;
           empty = eqb-true (current (u .entry (partnerOf g u b a) b)) invalid (t′ .0);
           free = omega (arith, ltb-true (used g u (partnerOf g u b a) (setOf g b)) (setFrames g) (t′ .1));
         }

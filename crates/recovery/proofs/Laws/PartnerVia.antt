@@ -221,7 +221,7 @@ module _ (g : Geometry) (saved : ℕ → ℕ) (w : View) (enough : tooFew g w �
         let h = partnerOf g u b a in
         let c = coded g saved w u plain b a hb (o .within) (o .holds) in
         let x = plain .entries a b (test-live g u a (o .within) (copy-live u b a (o .holds))) hb .value (copy-code u b a (o .holds)) in
-        rw (only-counts (g .nodes) (copy u b) a o, first-only (g .nodes) (copy u b) a o, ne-eqb h a (f .other))
+        rw (only-counts (g .nodes) (copy u b) a o, first-only (g .nodes) (copy u b) a o, ne-eqb h a (f .found .other))
         (via-weaken
         (taken-via g saved w u plain b h hb (f .alive) (f .empty) (f .free) (u .entry a b) x (absent (current (u .entry a b)) c))
         (λ v p r.

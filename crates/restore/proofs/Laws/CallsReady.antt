@@ -19,7 +19,6 @@ use Rattle.homes.specs.Evict.{dropped, evictOf}
 use Rattle.checkpoints.specs.Open.{creatingMark, openOf}
 use Rattle.checkpoints.specs.Create.{createOf}
 use Rattle.checkpoints.specs.Commit.{runningMark, abandonOf}
-use Rattle.homes.proofs.Laws.Kept.{test-live}
 use Rattle.homes.specs.Home.{homeOf}
 use Rattle.homes.proofs.Laws.Serves.{Serves, same-geometry}
 use Rattle.calls.proofs.Laws.ReadTheorem.{carried as read-carried, read-keeps}
@@ -104,7 +103,7 @@ module _ (t : List ℕ) (g : Geometry) (values saved : ℕ → ℕ) (number : �
         (λ d.
         let home = evict-home t n b place accepted d in
         moving-ready t g values saved number s n (homeOf g (view g t) place n b) b (from t n b place accepted)
-        (test-live g (view g t) (homeOf g (view g t) place n b) (home .there) (home .alive)) (admits t n b place accepted .item) _
+        (home .node) (admits t n b place accepted .item) _
         (evict-moves-keeps t n b place accepted d limit) lost)
 
     pub evict-ready :
