@@ -108,8 +108,8 @@ module _ (g : Geometry) (v : View) (b : ℕ) where
   home-tells e q =
       let h : ℕ = homeOf g v Current (ownerOf g v b) b in
       let f = home-fits g v Current (ownerOf g v b) b (and-no-right (not (hasSharer g v b)) (rw q refl) e) in
-      let t = none-shares q h (f .node) in
-      let p = both (eqb (current (v .entry h b)) invalid) (other-holds (eqb (current (v .entry h b)) shared) (f .takes) t) in
+      let t = other-holds (eqb (current (v .entry h b)) shared) (f .takes) (none-shares q h (f .node)) in
+      let p = both (eqb (current (v .entry h b)) invalid) t in
       record { node = f .node; other = f .found .other; place = eqb-true _ invalid (p .0); room = p .1 }
 
 -- a home drops a Shared copy of another item

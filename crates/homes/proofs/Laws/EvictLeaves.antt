@@ -27,7 +27,8 @@ use Rattle.entries.proofs.Laws.CheckFacts.{Accepted, accepted-facts}
 use Rattle.homes.specs.declared.places.Place.{Place}
 use Rattle.homes.specs.declared.places.Place.the-variants.{Current, Kept}
 use Rattle.homes.specs.Places.{codeIn}
-use Rattle.homes.specs.Home.{sharedAt, sharedItem, hasRoom, placeFits, homeOf, droppedItem, currentLeft, arrivalOf, dropStores, arrivalChanges, homeStoresBy, homeStores}
+use Rattle.homes.specs.Home.{sharedAt, sharedItem, hasRoom, placeFits, homeOf, droppedItem, currentLeft}
+use Rattle.homes.specs.Home.{arrivalOf, dropStores, arrivalChanges, homeStoresBy, homeStores}
 use Rattle.homes.specs.Evict.{dropped, stateLeft, sourceStores, movedTo, evictAdmission, evictStores, evictOf}
 use Rattle.homes.proofs.Laws.EvictCode.{evict-drops, evict-moves}
 use Rattle.homes.proofs.Laws.EvictTells.{Leaving, evict-leaving}

@@ -113,7 +113,7 @@ module _ (g : Geometry) (saved : ℕ → ℕ) (w u : View) (plain : Plain g save
           crowded (g .nodes) (g .frames) (live u) holds a (o .within) (copy-live u b a (o .holds)) own (λ n l d t. full n l d t (none n l d)),
         )
 
-    -- the partner found: another node of the table, the first that can take it; live, without the item, with a frame free
+    -- the partner found: the first other node that can take it; so it is live, without the item, with a frame free
     pub record Found (m : ℕ) : Type 0 where
       pub found : FoundAfter (takes g u b) (g .nodes) a m
       pub alive : Live g u m
