@@ -11,7 +11,8 @@ ghost use Rattle.table.specs.Changes.{checkpointOf};
 ghost use Rattle.survivors.specs.Survivors.{survivors};
 ghost use Rattle.recovery.specs.Numbering.{partnerChanges, partnerFrom, partnerStores, partnersStores};
 ghost use Rattle.recovery.specs.code.Rows.{HasEntry};
-ghost use Rattle.recovery.specs.code.PartnersCode.{usedWith, takesBy, Found, UsedBy, Filled, FilledFrom, Ready, Turned, Single, Passable, Settles};
+ghost use Rattle.recovery.specs.code.PartnersCode.{usedWith, takesBy, partnerBy, UsedBy, Filled, FilledFrom};
+ghost use Rattle.recovery.specs.code.PartnersCode.{Ready, Turned, Single, Passable, Settles};
 use crate::rows;
 use crate::tallies;
 use counting::cyclic;
@@ -79,7 +80,7 @@ fn can_take(table: &[u64], g: Geometry, lost: Lost, scratch: &[u64], item: u16, 
 // it is no node of the table.
 fn partner_of(table: &[u64], g: Geometry, lost: Lost, scratch: &[u64], item: u16, node: u8) -> u8
     requires { ⌜ (item < g .items) × (wordsOf g ≤ length (now table)) ⌝ }
-    ensures { λ r. ⌜ Found g (survivors lost (view g (now (table .entry)))) (now (scratch .entry)) item node r ⌝ }
+    ensures { λ r. ⌜ r ≡ partnerBy g (survivors lost (view g (now (table .entry)))) (now (scratch .entry)) item node ⌝ }
 {
     let nodes = g.nodes;
     let mut cursor = cyclic::after(nodes, node);

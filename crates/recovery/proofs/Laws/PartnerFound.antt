@@ -114,13 +114,13 @@ module _ (g : Geometry) (saved : ℕ → ℕ) (w u : View) (plain : Plain g save
         )
 
     -- the partner found: the first other node that can take it; so it is live, without the item, with a frame free
-    pub record Found (m : ℕ) : Type 0 where
+    pub record Partner (m : ℕ) : Type 0 where
       pub found : FoundAfter (takes g u b) (g .nodes) a m
       pub alive : Live g u m
       pub empty : current (u .entry m b) ≡ invalid
       pub free : used g u m (setOf g b) + 1 ≤ setFrames g
 
-    pub partner-found : Found (partnerOf g u b a)
+    pub partner-found : Partner (partnerOf g u b a)
     unfolding partnerOf takes
     partner-found =
         let some : partnerOf g u b a ≢ a = λ e. some-takes (after-none (takes g u b) (g .nodes) a (o .within) e) in

@@ -32,7 +32,7 @@ use Rattle.recovery.specs.Numbering.{single, holderOf, takes, partnerOf,
 use Rattle.recovery.specs.Numbering.{partnerStores, staged, partnersStores}
 use Rattle.recovery.proofs.Laws.Followed.{stored-any, view-left, Entered, entered-changes, entered-within, survivors-entered, stage-follows}
 use Rattle.recovery.specs.code.PartnersCode.{AgreesTo, Counts, usedWith, takesBy, partnerBy, UsedBy, Filled}
-use Rattle.recovery.specs.code.PartnersCode.{Ready, Turned, Found, FilledFrom}
+use Rattle.recovery.specs.code.PartnersCode.{Ready, Turned, FilledFrom}
 use Rattle.recovery.proofs.Laws.PartnersCounts.{agrees-start, agrees-turn, partner-agrees}
 
 -- ---- the test and the search, by the table and by the scratch
@@ -73,8 +73,9 @@ module _ (g : Geometry) (w : View) (s : List ℕ) (b : ℕ) where
     pub found-room : g .nodes ≤ length s → p < length s
     found-room room = omega (arith, found-takes .there)
 
-  pub found : (n : ℕ) {p : ℕ} → g .frames < 65536 → p ≡ partnerBy g w s b n → Found g w s b n p
-  found n l e = record { is = e; few = λ d. omega (arith, found-takes n e d .few) }
+    -- far from overflow
+    pub found-few : g .frames < 65536 → getD s p 0 < 65536
+    found-few l = omega (arith, found-takes .few)
 
 -- ---- whether a node can take a partner
 

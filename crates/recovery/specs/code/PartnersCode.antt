@@ -65,14 +65,6 @@ pub record Turned (g : Geometry) (lost : Lost) (f : View → List Store) (left :
   pub rest : drop (g .nodes) s′ ≡ drop (g .nodes) s
   pub size : length s′ ≡ length s
 
--- ---- the test and the search, by the table and by the scratch
-
-module _ (g : Geometry) (w : View) (s : List ℕ) (b : ℕ) where
-  -- the partner that the code finds, and that its count is far from overflow
-  pub record Found (n p : ℕ) : Type 0 where
-    pub is : p ≡ partnerBy g w s b n
-    pub few : (p ≡ n → ⊥) → getD s p 0 < 65536
-
 -- ---- the frames in use, before the first item
 
 -- the first k words of the scratch are those of u; its words from n on are as they were

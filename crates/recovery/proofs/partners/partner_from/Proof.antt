@@ -1,7 +1,7 @@
 -- `partner_from` meets its contract: no partner, or its stores and its frames. Assumes nothing.
 use Rattle.table.specs.View.{view}
 use Rattle.survivors.specs.Survivors.{survivors}
-use Rattle.recovery.proofs.Laws.PartnersCode.{found-there, found-room, from-none, from-made}
+use Rattle.recovery.proofs.Laws.PartnersCode.{found-there, found-room, found-few, from-none, from-made}
 use native.Mathlib.Omega.{arith}
 use borrow.Author.Needs.{needs}
 use Rattle.recovery.proofs.partners.partner_from.Statement.{statement}
@@ -11,7 +11,7 @@ returns : tie.Need-returns
 returns c =
     let o = c .before .before .before .before .before .before in
     let a = o .args in
-    from-none (a .g) (a .lost) (a .item) (a .node) (o .pre .0) (c .before .partner-of .ensures .is) (c .if1 .taken)
+    from-none (a .g) (a .lost) (a .item) (a .node) (o .pre .0) (c .before .partner-of .ensures) (c .if1 .taken)
 
 state-in-requires : tie.Need-state-in-requires
 state-in-requires c κs =
@@ -20,13 +20,19 @@ state-in-requires c κs =
     let o = p .before .before .before .before .before in
     let a = o .args in
     let w = survivors (a .lost) (view (a .g) (a .table .now)) in
-    let is = p .partner-of .ensures .is in
+    let is = p .partner-of .ensures in
     (found-there (a .g) w (a .scratch .now) (a .item) (a .node) is (i .if1 .left), (o .pre .1 .1, o .pre .0 .long))
 
 used-with-requires : tie.Need-used-with-requires
 used-with-requires c κs =
     let p = c .before .before .before .before .before in
-    omega (arith, p .partner-of .ensures .few (c .before .before .before .before .if1 .left), c .word .ensures)
+    let o = p .before .before .before .before .before in
+    let a = o .args in
+    let w = survivors (a .lost) (view (a .g) (a .table .now)) in
+    let few =
+    found-few (a .g) w (a .scratch .now) (a .item) (a .node) (p .partner-of .ensures)
+    (c .before .before .before .before .if1 .left) (o .good .1 .1 .0 .1 .1 .1 .1 .0 .1) in
+    omega (arith, few, c .word .ensures)
 
 slice-write-scratch : tie.Need-slice-write-scratch
 slice-write-scratch c =
@@ -34,7 +40,7 @@ slice-write-scratch c =
     let o = p .before .before .before .before .before in
     let a = o .args in
     let w = survivors (a .lost) (view (a .g) (a .table .now)) in
-    found-room (a .g) w (a .scratch .now) (a .item) (a .node) (p .partner-of .ensures .is)
+    found-room (a .g) w (a .scratch .now) (a .item) (a .node) (p .partner-of .ensures)
     (c .before .before .before .before .before .if1 .left) (o .pre .0 .room)
 
 returns-2 : tie.Need-returns-2
@@ -44,7 +50,7 @@ returns-2 c =
     let p = s .before .before .before in
     let o = p .before .before .before .before .before in
     let a = o .args in
-    from-made (a .g) (a .lost) (a .item) (a .node) (o .pre .0) (p .partner-of .ensures .is) (o .pre .1 .1)
+    from-made (a .g) (a .lost) (a .item) (a .node) (o .pre .0) (p .partner-of .ensures) (o .pre .1 .1)
     (s .before .before .if1 .left) (s .state-in .ensures) (u .before .word .ensures) (u .used-with .ensures)
     (c .before .before .store-partner .ensures)
 

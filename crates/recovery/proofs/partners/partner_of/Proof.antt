@@ -4,7 +4,6 @@ use Rattle.counting.proofs.Laws.Cyclic.{step-falls}
 use Rattle.table.specs.View.{view}
 use Rattle.survivors.specs.Survivors.{survivors}
 use Rattle.recovery.specs.code.PartnersCode.{takesBy, partnerBy}
-use Rattle.recovery.proofs.Laws.PartnersCode.{found}
 use borrow.Author.Needs.{needs}
 use Rattle.recovery.proofs.partners.partner_of.Statement.{statement}
 use Rattle.recovery.proofs.partners.partner_of.Tie as tie
@@ -26,9 +25,7 @@ returns : tie.Need-returns Inv-loop μ-loop
 unfolding partnerBy
 returns c =
     let l = c .before .before in
-    let o = l .before .before .before .before .before .before in
-    found (o .args .g) _ _ _ _ (search (needs, o))
-    (search-found _ _ _ (l .before .before .loop .inv) (l .if1 .taken) (c .before .can-take .ensures) (c .if2 .taken))
+    search-found _ _ _ (l .before .before .loop .inv) (l .if1 .taken) (c .before .can-take .ensures) (c .if2 .taken)
 
 loop-again : tie.Need-loop-again Inv-loop μ-loop
 loop-again c =
@@ -38,8 +35,7 @@ loop-again c =
 
 returns-2 : tie.Need-returns-2 Inv-loop μ-loop
 unfolding partnerBy
-returns-2 c =
-    found _ _ _ _ _ (search needs) (search-ends _ _ _ (c .before .before .loop .inv) (c .if1 .left))
+returns-2 c = search-ends _ _ _ (c .before .before .loop .inv) (c .if1 .left)
 
 pub partner-of-spec : {M : Type 1} → statement M
 partner-of-spec =
