@@ -116,7 +116,7 @@ module _ (g : Geometry) (saved : ℕ → ℕ) (w u : View) (plain : Plain g save
     -- the partner found: the first other node that can take it; so it is live, without the item, with a frame free
     pub record Partner (m : ℕ) : Type 0 where
       pub found : FoundAfter (takes g u b) (g .nodes) a m
-      pub alive : Live g u m
+      pub node : Live g u m
       pub empty : current (u .entry m b) ≡ invalid
       pub free : used g u m (setOf g b) + 1 ≤ setFrames g
 
@@ -129,7 +129,7 @@ module _ (g : Geometry) (saved : ℕ → ℕ) (w u : View) (plain : Plain g save
         let t′ = both (eqb (current (u .entry (partnerOf g u b a) b)) invalid) (t .1) in
         record {
           found = f;
-          alive = test-live g u (partnerOf g u b a) (f .there) (t .0);
+          node = test-live g u (partnerOf g u b a) (f .there) (t .0);
           empty = eqb-true (current (u .entry (partnerOf g u b a) b)) invalid (t′ .0);
           free = omega (arith, ltb-true (used g u (partnerOf g u b a) (setOf g b)) (setFrames g) (t′ .1));
         }

@@ -223,11 +223,11 @@ module _ (g : Geometry) (saved : ℕ → ℕ) (w : View) (enough : tooFew g w �
         let x = plain .entries a b (test-live g u a (o .within) (copy-live u b a (o .holds))) hb .value (copy-code u b a (o .holds)) in
         rw (only-counts (g .nodes) (copy u b) a o, first-only (g .nodes) (copy u b) a o, ne-eqb h a (f .found .other))
         (via-weaken
-        (taken-via g saved w u plain b h hb (f .alive) (f .empty) (f .free) (u .entry a b) x (absent (current (u .entry a b)) c))
+        (taken-via g saved w u plain b h hb (f .node) (f .empty) (f .free) (u .entry a b) x (absent (current (u .entry a b)) c))
         (λ v p r.
         let m = p .marks ∙ sym (plain .marks) in
         one-more v
-        (paired g saved w u plain b h hb (f .alive) (f .empty) (f .free) v m a o (r .rest) c (r .good))
+        (paired g saved w u plain b h hb (f .node) (f .empty) (f .free) v m a o (r .rest) c (r .good))
         (λ k i d. (
           pair-same g u v k m (λ n. r .rest n k (λ _ e. d e)),
           numbered-same g u v k m (λ n. r .rest n k (λ _ e. d e)),

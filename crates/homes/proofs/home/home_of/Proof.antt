@@ -18,19 +18,11 @@ loop-holds c = search-starts _ _ _ (c .after .ensures)
 
 returns : tie.Need-returns Inv-loop μ-loop
 unfolding homeOf
-returns c =
-    let l = c .before .before in
-    search-found _ _ _ (l .before .before .loop .inv) (l .if1 .taken) (c .before .can-take .ensures) (c .if2 .taken)
-
-loop-again : tie.Need-loop-again Inv-loop μ-loop
-loop-again c =
-    let l = c .before .before .before in
-    search-on _ _ _ (l .before .before .loop .inv) (l .if1 .taken) (c .before .before .can-take .ensures)
-    (c .before .if2 .left) (c .step .ensures)
+returns c = search search-found
 
 returns-2 : tie.Need-returns-2 Inv-loop μ-loop
 unfolding homeOf
-returns-2 c = search-ends _ _ _ (c .before .before .loop .inv) (c .if1 .left)
+returns-2 c = search search-ends
 
 pub home-of-spec : {M : Type 1} → statement M
 home-of-spec =
@@ -43,6 +35,6 @@ home-of-spec =
     (λ c κs. search needs)
     returns
     (λ c κs. search needs)
-    (λ c. step-falls _ _ (c .before .before .before .if1 .taken) (c .step .ensures))
-    loop-again
+    (λ c. search step-falls)
+    (λ c. search search-on)
     returns-2)

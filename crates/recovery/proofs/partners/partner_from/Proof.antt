@@ -1,6 +1,4 @@
 -- `partner_from` meets its contract: no partner, or its stores and its frames. Assumes nothing.
-use Rattle.table.specs.View.{view}
-use Rattle.survivors.specs.Survivors.{survivors}
 use Rattle.recovery.proofs.Laws.PartnersCode.{found-there, found-room, found-few, from-none, from-made}
 use native.Mathlib.Omega.{arith}
 use borrow.Author.Needs.{needs}
@@ -10,38 +8,29 @@ use Rattle.recovery.proofs.partners.partner_from.Tie as tie
 returns : tie.Need-returns
 returns c =
     let o = c .before .before .before .before .before .before in
-    let a = o .args in
-    from-none (a .g) (a .lost) (a .item) (a .node) (o .pre .0) (c .before .partner-of .ensures) (c .if1 .taken)
+    from-none _ _ _ _ (o .pre .0) (c .before .partner-of .ensures) (c .if1 .taken)
 
 state-in-requires : tie.Need-state-in-requires
 state-in-requires c κs =
     let i = c .before in
     let p = i .before in
     let o = p .before .before .before .before .before in
-    let a = o .args in
-    let w = survivors (a .lost) (view (a .g) (a .table .now)) in
-    let is = p .partner-of .ensures in
-    (found-there (a .g) w (a .scratch .now) (a .item) (a .node) is (i .if1 .left), (o .pre .1 .1, o .pre .0 .long))
+    (found-there _ _ _ _ _ (p .partner-of .ensures) (i .if1 .left), (o .pre .1 .1, o .pre .0 .long))
 
 used-with-requires : tie.Need-used-with-requires
 used-with-requires c κs =
-    let p = c .before .before .before .before .before in
-    let o = p .before .before .before .before .before in
-    let a = o .args in
-    let w = survivors (a .lost) (view (a .g) (a .table .now)) in
-    let few =
-    found-few (a .g) w (a .scratch .now) (a .item) (a .node) (p .partner-of .ensures)
-    (c .before .before .before .before .if1 .left) (o .good .1 .1 .0 .1 .1 .1 .1 .0 .1) in
-    omega (arith, few, c .word .ensures)
+    let i = c .before .before .before .before in
+    let p = i .before in
+    -- the frames of a geometry are a u16
+    let frames = p .before .before .before .before .before .good .1 .1 .0 .1 .1 .1 .1 .0 .1 in
+    omega (arith, found-few _ _ _ _ _ (p .partner-of .ensures) (i .if1 .left) frames, c .word .ensures)
 
 slice-write-scratch : tie.Need-slice-write-scratch
 slice-write-scratch c =
-    let p = c .before .before .before .before .before .before in
+    let i = c .before .before .before .before .before in
+    let p = i .before in
     let o = p .before .before .before .before .before in
-    let a = o .args in
-    let w = survivors (a .lost) (view (a .g) (a .table .now)) in
-    found-room (a .g) w (a .scratch .now) (a .item) (a .node) (p .partner-of .ensures)
-    (c .before .before .before .before .before .if1 .left) (o .pre .0 .room)
+    found-room _ _ _ _ _ (p .partner-of .ensures) (i .if1 .left) (o .pre .0 .room)
 
 returns-2 : tie.Need-returns-2
 returns-2 c =
@@ -49,8 +38,7 @@ returns-2 c =
     let s = u .before .before .before in
     let p = s .before .before .before in
     let o = p .before .before .before .before .before in
-    let a = o .args in
-    from-made (a .g) (a .lost) (a .item) (a .node) (o .pre .0) (p .partner-of .ensures) (o .pre .1 .1)
+    from-made _ _ _ _ (o .pre .0) (p .partner-of .ensures) (o .pre .1 .1)
     (s .before .before .if1 .left) (s .state-in .ensures) (u .before .word .ensures) (u .used-with .ensures)
     (c .before .before .store-partner .ensures)
 

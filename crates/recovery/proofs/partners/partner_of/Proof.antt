@@ -23,19 +23,11 @@ can-take-requires c κs = (search-there _ _ _ (c .before .before .loop .inv) (c 
 
 returns : tie.Need-returns Inv-loop μ-loop
 unfolding partnerBy
-returns c =
-    let l = c .before .before in
-    search-found _ _ _ (l .before .before .loop .inv) (l .if1 .taken) (c .before .can-take .ensures) (c .if2 .taken)
-
-loop-again : tie.Need-loop-again Inv-loop μ-loop
-loop-again c =
-    let l = c .before .before .before in
-    search-on _ _ _ (l .before .before .loop .inv) (l .if1 .taken) (c .before .before .can-take .ensures)
-    (c .before .if2 .left) (c .step .ensures)
+returns c = search search-found
 
 returns-2 : tie.Need-returns-2 Inv-loop μ-loop
 unfolding partnerBy
-returns-2 c = search-ends _ _ _ (c .before .before .loop .inv) (c .if1 .left)
+returns-2 c = search search-ends
 
 pub partner-of-spec : {M : Type 1} → statement M
 partner-of-spec =
@@ -48,6 +40,6 @@ partner-of-spec =
     can-take-requires
     returns
     (λ c κs. search needs)
-    (λ c. step-falls _ _ (c .before .before .before .if1 .taken) (c .step .ensures))
-    loop-again
+    (λ c. search step-falls)
+    (λ c. search search-on)
     returns-2)
