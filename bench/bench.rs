@@ -90,6 +90,7 @@ enum Call {
     Open,
     Create,
     Commit,
+    CommitLength,
     Abandon,
     Recover { lost: u64 },
 }
@@ -108,6 +109,7 @@ fn on_library(call: Call, table: &mut [u64], scratch: &mut [u64], limit: u64) ->
         Call::Open => library::open(table, limit),
         Call::Create => library::create(table, limit),
         Call::Commit => library::commit(table, limit),
+        Call::CommitLength => library::commit_length(table),
         Call::Abandon => library::abandon(table, limit),
         Call::Recover { lost } => library::recover(table, 0, lost, scratch, limit),
     }
@@ -125,6 +127,7 @@ fn on_native(call: Call, table: &mut [u64], scratch: &mut [u64], limit: u64) -> 
         Call::Open => native::open(table, limit),
         Call::Create => native::create(table, limit),
         Call::Commit => native::commit(table, limit),
+        Call::CommitLength => native::commit_length(table),
         Call::Abandon => native::abandon(table, limit),
         Call::Recover { lost } => native::recover(table, Some(lost), scratch, limit),
     };
@@ -148,7 +151,7 @@ impl Engine {
 
 // Kept calls.
 
-const SORTS: [&str; 13] = [
+const SORTS: [&str; 14] = [
     "check",
     "read, copy held",
     "read, copy fetched",
@@ -157,6 +160,7 @@ const SORTS: [&str; 13] = [
     "open",
     "create",
     "commit",
+    "a commit's length",
     "abandon",
     "recover, rolled back",
     "recover, rolled forward",
@@ -171,11 +175,12 @@ const EVICT: usize = 4;
 const OPEN: usize = 5;
 const CREATE: usize = 6;
 const COMMIT: usize = 7;
-const ABANDON: usize = 8;
-const BACK: usize = 9;
-const FORWARD: usize = 10;
-const FORMAT: usize = 11;
-const FORMAT_FILLED: usize = 12;
+const LENGTH: usize = 8;
+const ABANDON: usize = 9;
+const BACK: usize = 10;
+const FORWARD: usize = 11;
+const FORMAT: usize = 12;
+const FORMAT_FILLED: usize = 13;
 
 /// The sorts that make up an ordinary call in the plot.
 const ORDINARY: [usize; 3] = [READ_FETCHED, WRITE, EVICT];
@@ -261,11 +266,12 @@ impl Day {
         }
     }
 
-    /// A save; before its commit, recoveries of it and its being abandoned are kept too.
+    /// A save; before its commit, its length, recoveries of it and its being abandoned are kept too.
     fn save(&mut self) {
         self.call_and_keep(OPEN, Call::Open);
         while self.call_and_keep(CREATE, Call::Create).0 == 0 {}
         self.keep(ABANDON, Call::Abandon);
+        self.keep(LENGTH, Call::CommitLength);
         self.keep_forward();
         self.call_and_keep(COMMIT, Call::Commit);
     }

@@ -803,6 +803,28 @@ fn try_commit(table: &mut [u64], limit: u64) -> Result<Outcome, u64> {
     pen.done(0)
 }
 
+/// How many stores a whole commit makes, as the value: two marks of each live node, and four entries of each created
+/// item, less one where two of the four are one.
+pub fn commit_length(table: &[u64]) -> Outcome {
+    outcome(try_commit_length(table))
+}
+
+fn try_commit_length(table: &[u64]) -> Result<Outcome, u64> {
+    let found = checked_open(table)?;
+    if found.dirty.first().is_some() {
+        return Err(NOT_ALL_CREATED);
+    }
+    let created: u32 = found.created.0.iter().map(|bits| bits.count_ones()).sum();
+    let mut length = 2 * found.live.count_ones() as u64 + 4 * created as u64;
+    for item in found.created.iter() {
+        for node in Bits(found.live) {
+            let code = code(table[found.geometry.entry(node, item)]);
+            length -= (code >> 2 >= PRECOMMIT1 as usize && code & 3 != 0) as u64;
+        }
+    }
+    Ok(Outcome { answer: 0, value: length, stores: 0 })
+}
+
 /// The state word that an entry of a created item has after a commit, and after the checkpoint is
 /// abandoned, by code.
 static COMMITTED: [u64; 64] = turned(SHARED_CK1, SHARED_CK2, false);

@@ -241,6 +241,24 @@ uint64_t linkspan_commit(uint64_t *table, size_t len,
                          uint64_t limit, uint64_t *value, uint64_t *stores);
 
 /*
+ * linkspan_commit_length tells how long linkspan_commit will be: *length is the number of stores that the
+ * whole of it makes of this very table. Where it would be refused, the refusal is the same one and
+ * *length is 0. Stores nothing.
+ *
+ * The number is exact. It is 2 * k + 4 * d - c: k nodes are live, d items are created, and c times a
+ * new recovery copy and an old one of an item stand in one entry of a live node.
+ *
+ * What a scheduler does with it: when linkspan_create has answered 17, it asks, and knows for how many
+ * stores sailings are to be held; a save that does not fit before the next sailing it puts off, or
+ * abandons. From then on only a commit, an abandoning, a recovery or a formatting changes the table, and
+ * the number stands until one of them is made. It holds the sailings, makes the commit and releases
+ * them when that has answered 0, with *stores as it was told. Beside the stores a commit takes the time
+ * of its checks, which is about that of linkspan_check.
+ * 0; 1 empty; 3; 1 too short; 2; 8; 12.
+ */
+uint64_t linkspan_commit_length(const uint64_t *table, size_t len, uint64_t *length);
+
+/*
  * linkspan_abandon closes the checkpoint without a save: present and saved values stay as they are.
  * 0; 1 empty; 3; 1 too short; 2; 8.
  */

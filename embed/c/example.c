@@ -44,15 +44,17 @@ static void print_plan(const char *when, uint64_t *table, uint64_t machine)
     printf(", %" PRIu64 " m in all\n", total);
 }
 
-/* The first two steps of a save: it is opened, and every changed berth gets its new copies. */
+/* The first two steps of a save: it is opened, and every changed berth gets its new copies. Sailings are held for the
+   last step alone, whose stores are known from here on. */
 static void prepare_save(uint64_t *table)
 {
-    uint64_t value, stores, answer, berths = 0;
+    uint64_t value, stores, answer, length, berths = 0;
     expect("open", linkspan_open(table, WORDS, WHOLE, &value, &stores), LINKSPAN_DONE);
     while ((answer = linkspan_create(table, WORDS, WHOLE, &value, &stores)) == LINKSPAN_DONE)
         berths++;
     expect("create", answer, LINKSPAN_NOTHING_LEFT);
-    printf("a save is opened: new copies of %" PRIu64 " berths\n", berths);
+    expect("commit_length", linkspan_commit_length(table, WORDS, &length), LINKSPAN_DONE);
+    printf("a save is opened: new copies of %" PRIu64 " berths; its commit is %" PRIu64 " stores\n", berths, length);
 }
 
 /* The last step, up to a number of stores. */

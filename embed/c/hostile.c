@@ -7,7 +7,7 @@
  *   - on a refusal, and on 17, table and scratch are word for word as before, results are 0;
  *   - otherwise no more stores than the limit and no more words changed than stores, none of them
  *     past the table's own words; a whole call leaves a sound table; a recovery leaves the scratch
- *     as promised.
+ *     as promised; a commit is as long as it was told to be.
  *
  * Usage: hostile [CALLS [SEED]]
  */
@@ -218,11 +218,11 @@ static struct slice any_table(void)
 
 /* Calls. */
 
-enum call { WORDS, CHECK, STRETCH, FORMAT, READ, WRITE, EVICT, OPEN, CREATE, COMMIT, ABANDON, RECOVER, CALLS };
+enum call { WORDS, CHECK, STRETCH, FORMAT, READ, WRITE, EVICT, OPEN, CREATE, COMMIT, LENGTH, ABANDON, RECOVER, CALLS };
 
 static const char *const names[CALLS] = {
     "words", "check", "stretch", "format", "read", "write",
-    "evict", "open", "create", "commit", "abandon", "recover",
+    "evict", "open", "create", "commit", "length", "abandon", "recover",
 };
 
 #define CAN(answer) (UINT64_C(1) << (answer))
@@ -240,6 +240,7 @@ static const uint64_t possible[CALLS] = {
     ADDRESSED | CAN(10) | CAN(11) | CAN(18),
     TABLE_CHECKS | CAN(7) | CAN(13),
     TABLE_CHECKS | CAN(8) | CAN(11) | CAN(17),
+    TABLE_CHECKS | CAN(8) | CAN(12),
     TABLE_CHECKS | CAN(8) | CAN(12),
     TABLE_CHECKS | CAN(8),
     TABLE_CHECKS | CAN(4) | CAN(14) | CAN(15) | CAN(16) | CAN(18),
@@ -291,6 +292,9 @@ static uint64_t make_call(struct trial *trial)
         return linkspan_create(table, length, limit, value, stores);
     case COMMIT:
         return linkspan_commit(table, length, limit, value, stores);
+    case LENGTH:
+        *stores = 0;
+        return linkspan_commit_length(table, length, value);
     case ABANDON:
         return linkspan_abandon(table, length, limit, value, stores);
     case RECOVER:
@@ -320,6 +324,17 @@ static void judge_stretch(const struct trial *trial)
         fault(trial->call, trial->answer, "the stretch is not within the table");
     if (!same_words(trial->table, trial->table_before))
         fault(trial->call, trial->answer, "the table was changed");
+}
+
+/* The commit that follows makes as many stores. */
+static void judge_length(const struct trial *trial)
+{
+    uint64_t value, stores;
+    if (!same_words(trial->table, trial->table_before))
+        fault(trial->call, trial->answer, "the table was changed");
+    if (linkspan_commit(trial->table.words, trial->table.length, LINKSPAN_WHOLE, &value, &stores) != 0 ||
+        stores != *trial->value)
+        fault(trial->call, trial->answer, "the commit is not as long");
 }
 
 static void judge_scratch(const struct trial *trial)
@@ -371,6 +386,8 @@ static void judge(const struct trial *trial)
         judge_refused(trial);
     else if (trial->call == STRETCH)
         judge_stretch(trial);
+    else if (trial->call == LENGTH)
+        judge_length(trial);
     else if (trial->call != WORDS)
         judge_done(trial);
 }

@@ -18,10 +18,11 @@ pub enum Call {
     Commit,
     Abandon,
     Recover { none: u64, lost: u64, scratch: usize },
+    CommitLength,
 }
 
 /// The calls' names and the answers that each can give.
-pub const ANSWERS: [(&str, &[u64]); 12] = [
+pub const ANSWERS: [(&str, &[u64]); 13] = [
     ("words", &[0]),
     ("check", &[0, 1, 2, 3]),
     ("stretch", &[0, 1, 3, 4]),
@@ -34,6 +35,7 @@ pub const ANSWERS: [(&str, &[u64]); 12] = [
     ("commit", &[0, 1, 2, 3, 8, 12]),
     ("abandon", &[0, 1, 2, 3, 8]),
     ("recover", &[0, 1, 2, 3, 4, 14, 15, 16, 18]),
+    ("length", &[0, 1, 2, 3, 8, 12]),
 ];
 
 impl Call {
@@ -52,6 +54,7 @@ impl Call {
             Call::Commit => 9,
             Call::Abandon => 10,
             Call::Recover { .. } => 11,
+            Call::CommitLength => 12,
         }
     }
 
@@ -69,7 +72,7 @@ pub const NO_SUCH_CHOICE: u64 = 18;
 /// Answer, value, stores (for Stretch: answer, start, words; for Words: 0, words, 0).
 pub type Said = (u64, u64, u64);
 
-/// The whole plan of a call that document 01 has: a refusal's number, or the value and every store, in order.
+/// The whole plan of a call: a refusal's number, or the value and every store, in order.
 pub fn listed(call: Call, table: &[u64]) -> Plan {
     match call {
         Call::Words { .. } => no_stores(0),
@@ -85,6 +88,7 @@ pub fn listed(call: Call, table: &[u64]) -> Plan {
         Call::Abandon => reference::abandon_plan(table),
         Call::Recover { none, .. } if none > 1 => Err(NO_SUCH_CHOICE),
         Call::Recover { none, lost, scratch } => reference::recover_plan(table, (none == 0).then_some(lost), scratch),
+        Call::CommitLength => reference::commit_length_plan(table),
     }
 }
 

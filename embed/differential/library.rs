@@ -68,6 +68,13 @@ pub fn commit(table: &mut [u64], limit: u64) -> Said {
     said(|value, stores| unsafe { linkspan_commit(table.as_mut_ptr(), table.len(), limit, value, stores) })
 }
 
+/// Answer, length and 0: it stores nothing.
+pub fn commit_length(table: &[u64]) -> Said {
+    let mut length = UNSET;
+    let answer = unsafe { linkspan_commit_length(table.as_ptr(), table.len(), &mut length) };
+    (answer, length, 0)
+}
+
 pub fn abandon(table: &mut [u64], limit: u64) -> Said {
     said(|value, stores| unsafe { linkspan_abandon(table.as_mut_ptr(), table.len(), limit, value, stores) })
 }

@@ -37,6 +37,8 @@ struct Tally {
     at_limit: u64,
     /// Recoveries that rolled forward.
     forward: u64,
+    /// Commits carried out of which was told how long they would be.
+    foretold: u64,
     met: [[u64; 19]; ANSWERS.len()],
 }
 
@@ -63,10 +65,11 @@ impl Subject for Comparison<'_> {
         let compared = self.twins.call(call, limit);
         self.note(call, limit, &entry, &compared);
         self.left = self.left.saturating_sub(1);
-        if !compared.same {
+        let right = compared.same && compared.as_told != Some(false);
+        if !right {
             self.report(call, limit, &entry, &compared);
         }
-        compared.same
+        right
     }
 }
 
@@ -76,6 +79,7 @@ impl Comparison<'_> {
         self.tally.calls += 1;
         self.tally.met[call.name_index()][answer as usize] += 1;
         self.tally.at_limit += (answer == 0 && stores == limit) as u64;
+        self.tally.foretold += (answer == 0 && compared.as_told == Some(true)) as u64;
         if let (Call::Recover { none, lost, .. }, 0) = (call, answer) {
             let nodes = Geometry::of_table(entry).nodes;
             let committing = |node: u64| entry[1 + node as usize] >> 61 & 3 == 2;
@@ -92,6 +96,9 @@ impl Comparison<'_> {
         println!("difference in seed {}, run {}: {call:?}, limit {limit}", self.seed, self.run);
         println!("  library   (answer, value, stores): {:?}", compared.library);
         println!("  reference (answer, value, stores): {:?}", compared.reference);
+        if compared.as_told == Some(false) {
+            println!("  another commit than `commit_length` told of");
+        }
         for (place, ours, theirs) in self.twins.differing() {
             println!("  word {place}: library {ours:016x}, reference {theirs:016x}");
         }
@@ -150,7 +157,7 @@ fn arguments() -> (u64, Vec<u64>) {
 
 fn main() {
     let (calls, seeds) = arguments();
-    let mut tally = Tally { calls: 0, differences: 0, at_limit: 0, forward: 0, met: [[0; 19]; ANSWERS.len()] };
+    let mut tally = Tally { calls: 0, differences: 0, at_limit: 0, forward: 0, foretold: 0, met: [[0; 19]; ANSWERS.len()] };
     let start = std::time::Instant::now();
     for &seed in &seeds {
         run_seed(seed, calls.div_ceil(seeds.len() as u64), &mut tally);
@@ -158,13 +165,14 @@ fn main() {
     println!("answers met, with the number of calls:");
     print_met(&tally);
     println!(
-        "{} calls, {} made just as many stores as their limit, {} recoveries rolled forward, seeds {seeds:?}, {:.1} s: \
-         {} differences",
+        "{} calls, {} made just as many stores as their limit, {} recoveries rolled forward, {} commits of a length that \
+         was told before, seeds {seeds:?}, {:.1} s: {} differences",
         tally.calls,
         tally.at_limit,
         tally.forward,
+        tally.foretold,
         start.elapsed().as_secs_f64(),
         tally.differences
     );
-    std::process::exit((tally.differences > 0) as i32);
+    std::process::exit((tally.differences > 0 || tally.foretold == 0) as i32);
 }

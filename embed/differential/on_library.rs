@@ -20,5 +20,6 @@ pub fn on_library(call: Call, table: &mut [u64], scratch: &mut [u64], limit: u64
         Call::Commit => library::commit(table, limit),
         Call::Abandon => library::abandon(table, limit),
         Call::Recover { none, lost, .. } => library::recover(table, none, lost, scratch, limit),
+        Call::CommitLength => library::commit_length(table),
     }
 }

@@ -695,11 +695,17 @@ pub fn create_plan(table: &[u64]) -> Plan {
     Ok((0, picture.stores))
 }
 
-pub fn commit_plan(table: &[u64]) -> Plan {
+/// What Commit asks: the table checks, 8, 12.
+fn committable(table: &[u64]) -> Result<Sound, u64> {
     let sound = checked_open(table)?;
     if sound.kinds.contains(&Kind::Dirty) {
         return Err(NOT_ALL_CREATED);
     }
+    Ok(sound)
+}
+
+pub fn commit_plan(table: &[u64]) -> Plan {
+    let sound = committable(table)?;
     let mut picture = sound.picture;
     let number = sound.mark.number + 1;
     mark_all(&mut picture, Mark { phase: Phase::Committing, number });
@@ -719,6 +725,19 @@ fn commit_entry(picture: &mut Picture, node: usize, item: usize) {
         current if entry.kept.is_some() => picture.store_state(node, item, current, None),
         _ => (),
     }
+}
+
+/// The stores of a whole commit, by document 02: 2k + 4d - c for k live nodes, d created items and c entries of live
+/// nodes with a Precommit and an Inv-CK side by side.
+pub fn commit_length_plan(table: &[u64]) -> Plan {
+    let Sound { picture, kinds, .. } = committable(table)?;
+    let entries = picture.live().flat_map(|node| (0..kinds.len()).map(move |item| (node, item)));
+    let side_by_side = entries.filter(|&(node, item)| {
+        matches!(picture.current(node, item), Current::Precommit(_)) && picture.kept(node, item).is_some()
+    });
+    let created = kinds.iter().filter(|kind| **kind == Kind::Created);
+    let length = 2 * picture.live().count() + 4 * created.count() - side_by_side.count();
+    Ok((length as u64, Vec::new()))
 }
 
 pub fn abandon_plan(table: &[u64]) -> Plan {

@@ -22,6 +22,12 @@ pub trait Subject {
     fn call(&mut self, call: Call, limit: u64) -> bool;
 }
 
+/// Makes the call. Before a commit, how long it will be is asked for.
+fn make(subject: &mut impl Subject, call: Call, limit: u64) -> bool {
+    let asked = !matches!(call, Call::Commit) || subject.call(Call::CommitLength, limit);
+    asked && subject.call(call, limit)
+}
+
 pub struct Runs {
     random: Random,
 }
@@ -79,7 +85,7 @@ impl Runs {
     fn whole_calls(&mut self, subject: &mut impl Subject, count: u64) -> bool {
         (0..count).all(|_| {
             let call = choices::likely_call(&mut self.random, subject.table());
-            subject.call(call, WHOLE)
+            make(subject, call, WHOLE)
         })
     }
 
@@ -129,7 +135,7 @@ impl Runs {
     /// The call is cut off, and recoveries follow.
     fn cut(&mut self, subject: &mut impl Subject, call: Call) -> bool {
         let limit = choices::any_limit(&mut self.random);
-        subject.call(call, limit) && self.recoveries(subject)
+        make(subject, call, limit) && self.recoveries(subject)
     }
 
     /// A node is lost, or none; recoveries that are cut off, and a whole one.
@@ -171,7 +177,7 @@ impl Runs {
         (0..count).all(|_| {
             let call = choices::any_call(&mut self.random, subject.table());
             let limit = choices::any_limit(&mut self.random);
-            subject.call(call, limit)
+            make(subject, call, limit)
         })
     }
 

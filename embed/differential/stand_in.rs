@@ -137,6 +137,13 @@ pub unsafe extern "C" fn linkspan_commit(
 }
 
 #[no_mangle]
+pub unsafe extern "C" fn linkspan_commit_length(table: *const u64, len: usize, length: *mut u64) -> u64 {
+    let outcome = native::commit_length(lent(table as *mut u64, len));
+    *length = outcome.value;
+    outcome.answer
+}
+
+#[no_mangle]
 pub unsafe extern "C" fn linkspan_abandon(
     table: *mut u64,
     len: usize,

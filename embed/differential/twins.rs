@@ -43,6 +43,8 @@ impl Lent {
 pub struct Twins {
     pub library: Lent,
     pub reference: Lent,
+    /// What the library said last, if it was asked how long a commit of these very tables will be.
+    told: Option<Said>,
 }
 
 /// What came of a call on both.
@@ -50,11 +52,13 @@ pub struct Compared {
     pub library: Said,
     pub reference: Said,
     pub same: bool,
+    /// Whether a commit was as long as told before; nothing, if nothing was told of it.
+    pub as_told: Option<bool>,
 }
 
 impl Twins {
     pub fn new(contents: &[u64]) -> Twins {
-        Twins { library: Lent::new(contents), reference: Lent::new(contents) }
+        Twins { library: Lent::new(contents), reference: Lent::new(contents), told: None }
     }
 
     pub fn table(&self) -> &[u64] {
@@ -65,6 +69,7 @@ impl Twins {
     pub fn set(&mut self, contents: &[u64]) {
         self.reference = Lent::new(contents);
         self.library.copy_from(&self.reference);
+        self.told = None;
     }
 
     pub fn call(&mut self, call: Call, limit: u64) -> Compared {
@@ -73,7 +78,18 @@ impl Twins {
         let library = on_library(call, self.library.slice_mut(), library_scratch.slice_mut(), limit);
         let reference = on_reference(call, self.reference.slice_mut(), reference_scratch.slice_mut(), limit);
         let same = library == reference && self.library == self.reference && library_scratch == reference_scratch;
-        Compared { library, reference, same }
+        Compared { library, reference, same, as_told: self.as_told(call, limit, library) }
+    }
+
+    /// Keeps what is told of a commit's length, and holds the commit that follows to it.
+    fn as_told(&mut self, call: Call, limit: u64, said: Said) -> Option<bool> {
+        let told = self.told.take();
+        match call {
+            Call::CommitLength => self.told = Some(said),
+            Call::Commit => return told.map(|(answer, length, _)| said == (answer, 0, length.min(limit))),
+            _ => (),
+        }
+        None
     }
 
     /// The first places where the tables differ: place, library's word, reference's word.

@@ -8,6 +8,7 @@
 //! there are by default; 2 for bad usage.
 
 #[path = "../differential/calls.rs"]
+#[allow(dead_code)]
 mod calls;
 #[allow(dead_code)]
 #[path = "../differential/choices.rs"]

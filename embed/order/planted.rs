@@ -162,6 +162,13 @@ pub unsafe extern "C" fn linkspan_recover(
 }
 
 #[no_mangle]
+pub unsafe extern "C" fn linkspan_commit_length(table: *const u64, len: usize, length: *mut u64) -> u64 {
+    let said = carry_out(Call::CommitLength, (table as *mut u64, len), NO_SCRATCH, 0);
+    *length = said.1;
+    said.0
+}
+
+#[no_mangle]
 pub extern "C" fn linkspan_words(nodes: u64, items: u64) -> u64 {
     reference::words(nodes, items)
 }

@@ -37,7 +37,8 @@ fn print_plan(when: &str, table: &mut Table, machine: u64) {
     println!("{when}, machine {machine} reads: {}, {} m in all", listed.join(" "), lengths.iter().sum::<u64>());
 }
 
-/// The first two steps of a save: it is opened, and every changed berth gets its new copies.
+/// The first two steps of a save: it is opened, and every changed berth gets its new copies. Sailings are held for the
+/// last step alone, whose stores are known from here on.
 fn prepare_save(table: &mut Table) {
     done("open", table.open());
     let mut berths = 0;
@@ -48,7 +49,8 @@ fn prepare_save(table: &mut Table) {
             Answer::Refused(refusal) => panic!("create was refused: {refusal:?}"),
         }
     }
-    println!("a save is opened: new copies of {berths} berths");
+    let length = table.commit_length().expect("a commit that can be made");
+    println!("a save is opened: new copies of {berths} berths; its commit is {length} stores");
 }
 
 /// The last step; the table may be one that is cut off after some stores.

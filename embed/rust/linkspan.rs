@@ -52,6 +52,7 @@ pub(crate) mod ffi {
         pub fn linkspan_open(table: *mut u64, len: usize, limit: u64, value: *mut u64, stores: *mut u64) -> u64;
         pub fn linkspan_create(table: *mut u64, len: usize, limit: u64, value: *mut u64, stores: *mut u64) -> u64;
         pub fn linkspan_commit(table: *mut u64, len: usize, limit: u64, value: *mut u64, stores: *mut u64) -> u64;
+        pub fn linkspan_commit_length(table: *const u64, len: usize, length: *mut u64) -> u64;
         pub fn linkspan_abandon(table: *mut u64, len: usize, limit: u64, value: *mut u64, stores: *mut u64) -> u64;
         pub fn linkspan_recover(
             table: *mut u64,
@@ -414,6 +415,16 @@ impl<'a> Table<'a> {
     pub fn commit(&mut self) -> Answer {
         let (table, len, limit) = self.lent();
         answer(|value, stores| unsafe { ffi::linkspan_commit(table, len, limit, value, stores) })
+    }
+
+    /// How many stores a whole [`Table::commit`] will make, or why it would be turned down. Stores nothing. `linkspan.h`
+    /// says what a scheduler does with it.
+    pub fn commit_length(&self) -> Result<u64, Refusal> {
+        let mut length = 0;
+        match unsafe { ffi::linkspan_commit_length(self.words.as_ptr(), self.words.len(), &mut length) } {
+            0 => Ok(length),
+            number => Err(Refusal::of_number(number)),
+        }
     }
 
     /// Closes the checkpoint without a save.

@@ -4,6 +4,7 @@
 //! Usage: expected FOLDER
 
 #[path = "../../embed/differential/calls.rs"]
+#[allow(dead_code)]
 mod calls;
 #[path = "../../embed/differential/choices.rs"]
 mod choices;

@@ -94,7 +94,7 @@ fn words_of(call: Call) -> Option<Words> {
         Call::Open | Call::Create | Call::Commit | Call::Abandon => (0, 0, 0, 0),
         Call::Recover { none: 1, .. } => (0, 0, 1, 0),
         Call::Recover { none, lost, .. } => (lost, 0, none, 0),
-        Call::Words { .. } | Call::Check | Call::Stretch { .. } => return None,
+        Call::Words { .. } | Call::Check | Call::Stretch { .. } | Call::CommitLength => return None,
     };
     let fits = node < 1 << 4 && item < 1 << 8 && place < 1 << 1;
     fits.then(|| (first_word(operations::number(&call), node, item, place), value))

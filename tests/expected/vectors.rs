@@ -68,7 +68,7 @@ impl Vectors {
 /// Whether a vector can be made of the call: the C library has more calls and more choices.
 pub fn has_vector(call: &Call) -> bool {
     match call {
-        Call::Words { .. } => false,
+        Call::Words { .. } | Call::CommitLength => false,
         Call::Evict { place, .. } => *place <= 1,
         Call::Recover { none, scratch, .. } => *none <= 1 && *scratch <= MOST_SCRATCH,
         _ => true,

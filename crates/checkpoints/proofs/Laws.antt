@@ -3,6 +3,7 @@ pub mod Checkpoint
 pub mod Closing
 pub mod Open
 pub mod Commit
+pub mod CommitReady
 pub mod ClosingCode
 pub mod CreateCode
 pub mod KeptMarks
@@ -28,6 +29,7 @@ pub mod OpenSound
 pub mod AbandonSound
 pub mod CommitSound
 pub mod CommitCount
+pub mod CommitLength
 pub mod CreateSound
 pub mod CommitServes
 pub mod OpenServes

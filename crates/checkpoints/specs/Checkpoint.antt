@@ -6,7 +6,7 @@ use lib.Dec.{eqb}
 use Rattle.counting.specs.Counting.{first}
 use Rattle.table.specs.declared.geometry.Geometry.{Geometry}
 use Rattle.table.specs.declared.answers.Refusal.the-variants.{NoCheckpoint}
-use Rattle.table.specs.Words.{precommit1, precommit2, phaseOf, invalid}
+use Rattle.table.specs.Words.{precommit1, precommit2, currentOf, keptOf, phaseOf, invalid}
 use Rattle.table.specs.Stores.{Store, Change, stateTo}
 use Rattle.table.specs.View.{Entry, View, live, current, kept, pass}
 use Rattle.homes.specs.declared.admission.Admission.{Admission}
@@ -49,13 +49,13 @@ entriesTo g v change = entriesBefore g v change (g .nodes)
 
 -- ---- how an open checkpoint ends in an entry. Commit: "one state store where Precommit or Inv-CK stands". Abandon: "Precommit state words likewise".
 
--- "where Precommit or Inv-CK stands"
-abbrev pub toCommit : Entry → Bool
-toCommit e = isPrecommit (current e) || not (eqb (kept e) invalid)
+-- "where Precommit or Inv-CK stands", by the state word
+abbrev pub toCommit : ℕ → Bool
+toCommit w = isPrecommit (currentOf w) || not (eqb (keptOf w) invalid)
 
 -- "Commit and roll forward empty the kept place."
 unfoldable pub commitChange : Entry → List Change
-commitChange e = cond (toCommit e) (stateTo (changeOf (current e) Commit) invalid ∷ []) []
+commitChange e = cond (toCommit (e .state)) (stateTo (changeOf (current e) Commit) invalid ∷ []) []
 
 -- the kept place stays
 unfoldable pub abandonChange : Entry → List Change

@@ -2,13 +2,14 @@
 -- stands; each live mark, phase 0."
 use Prim.Native.Nat.{ℕ, _+_}
 use mathlib.Core.Bool.{cond}
-use mathlib.Core.List.{List, _++_}
+use mathlib.Core.List.{List, [], _++_}
+use lib.ListN.{length}
 use Rattle.table.specs.declared.geometry.Geometry.{Geometry}
 use Rattle.table.specs.declared.answers.Refusal.the-variants.{NotCreated}
 use Rattle.table.specs.Words.{numberOf, markWord}
 use Rattle.table.specs.Stores.{Store}
 use Rattle.table.specs.View.{View, marksTo}
-use Rattle.table.specs.Answers.{Plan, carry}
+use Rattle.table.specs.Answers.{Plan, refuse, nothingLeft, carry}
 use Rattle.homes.specs.declared.admission.Admission.{Admission}
 use Rattle.homes.specs.declared.admission.Admission.the-variants.{Admitted, Turned}
 use Rattle.checkpoints.specs.declared.checkpoint.Closing.the-variants.{Committed, Abandoned}
@@ -43,6 +44,16 @@ commitAdmission g v = createdAdmission g v (openAdmission g v)
 
 abbrev pub commitOf : List ℕ → Plan
 commitOf t = planBy commitAdmission (λ g v. carry g 0 (commitStores g v)) t
+
+-- ---- how long it will be: asked before, Commit's own refusals, or the number of its stores as the value; nothing is stored
+
+abbrev pub lengthTold : Plan → Plan
+lengthTold (refuse x) = refuse x
+lengthTold nothingLeft = nothingLeft
+lengthTold (carry g value ss) = carry g (length ss) []
+
+abbrev pub commitLengthOf : List ℕ → Plan
+commitLengthOf t = lengthTold (commitOf t)
 
 -- ---- Abandon: "Precommit state words likewise, then marks to phase 0."
 

@@ -3,4 +3,5 @@ pub mod Checkpoint
 pub mod Open
 pub mod Create
 pub mod Commit
+pub mod CommitCount
 pub mod code

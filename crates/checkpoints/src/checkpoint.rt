@@ -5,7 +5,7 @@ ghost use lib.ListN.{length};
 ghost use Rattle.table.specs.Geometry.{wordsOf};
 ghost use Rattle.table.specs.Stores.{Stored, StoredIn};
 ghost use Rattle.table.specs.View.{view, markTo, pass};
-ghost use Rattle.checkpoints.specs.Checkpoint.{commonMark, openAdmission, liveChanges, entriesTo, commitChange, abandonChange, closeChange};
+ghost use Rattle.checkpoints.specs.Checkpoint.{commonMark, openAdmission, liveChanges, entriesTo, toCommit, commitChange, abandonChange, closeChange};
 ghost use Rattle.checkpoints.specs.code.Checkpoint.{Lies, MarksStored};
 use homes::admission::Admission;
 use table::answers::Refusal;
@@ -73,21 +73,27 @@ pub(crate) fn marks_to(table: &mut [u64], left: u64, g: Geometry, word: u64) -> 
     left
 }
 
-// A commit in an entry, of which this is the state word: one state store where Precommit or Inv-CK stands. With its four
-// top bits, the current place, moved to the end, the word of any other entry is that place's code, which is under 6.
+// Whether a commit stores in the entry of this state word: where Precommit or Inv-CK stands. With its four top bits, the
+// current place, moved to the end, the word of any other entry is that place's code, which is under 6.
+pub(crate) fn commits_in(state: u64) -> bool
+    ensures { λ r. ⌜ r ≡ toCommit state ⌝ }
+{
+    let turned = state % 0x1000_0000_0000_0000 * 16 + state / 0x1000_0000_0000_0000;
+    if turned < 6 {
+        return false;
+    }
+    let current = words::current_of(state);
+    let kept = words::kept_of(state);
+    ((current == words::PRECOMMIT1) | (current == words::PRECOMMIT2)) | !(kept == words::INVALID)
+}
+
+// A commit in an entry, of which this is the state word: one state store, or none.
 fn commit_entry(table: &mut [u64], left: u64, g: Geometry, node: u8, item: u16, state: u64) -> u64
     requires { ⌜ state ≡ view g (now table) .entry node item .state ⌝ }
     ensures { λ r. ⌜ StoredIn g left node item (commitChange (view g (now (table .entry)) .entry node item)) (now (table .entry)) (now (table .exit)) r ⌝ }
 {
-    let turned = state % 0x1000_0000_0000_0000 * 16 + state / 0x1000_0000_0000_0000;
-    if turned < 6 {
-        return left;
-    }
-    let current = words::current_of(state);
-    let kept = words::kept_of(state);
-    let precommit = (current == words::PRECOMMIT1) | (current == words::PRECOMMIT2);
-    if precommit | !(kept == words::INVALID) {
-        let next = table::changes::change(current, Event::Commit);
+    if commits_in(state) {
+        let next = table::changes::change(words::current_of(state), Event::Commit);
         return stores::store_state(table, left, g, node, item, next, words::INVALID);
     }
     left

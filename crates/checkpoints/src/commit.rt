@@ -7,8 +7,10 @@ ghost use Rattle.table.specs.Answers.{Meets};
 ghost use Rattle.entries.specs.Dirty.{dirtyItem};
 ghost use Rattle.checkpoints.specs.Commit.{commitAdmission, commitStores, commitOf};
 ghost use Rattle.checkpoints.specs.code.Checkpoint.{Agreed};
+ghost use Rattle.checkpoints.specs.code.CommitCode.{readyOf};
 use crate::checkpoint;
 use crate::checkpoint::Closing;
+use entries::check::Checked;
 use entries::check::Surveyed;
 use homes::admission::Admission;
 use table::answers::Answer;
@@ -30,6 +32,23 @@ fn admit_commit(table: &[u64], g: Geometry, item: u16) -> Admission
                 return Admission::Turned(Refusal::NotCreated);
             }
             Admission::Admitted
+        }
+    }
+}
+
+// The table checks, then Commit's own refusals: the geometry of a table whose open checkpoint can be committed.
+pub(crate) fn ready(table: &[u64]) -> Checked
+    ensures { λ r. ⌜ r ≡ readyOf (now (table .entry)) ⌝ }
+{
+    let surveyed = entries::check::survey_table(table);
+    match surveyed {
+        Surveyed::Refused(x) => Checked::Failed(x),
+        Surveyed::Sound(g, item) => {
+            let admission = admit_commit(table, g, item);
+            match admission {
+                Admission::Turned(x) => Checked::Failed(x),
+                Admission::Admitted => Checked::Passed(g),
+            }
         }
     }
 }
@@ -59,19 +78,13 @@ fn commit_stores(table: &mut [u64], left: u64, g: Geometry) -> u64
 pub fn commit(table: &mut [u64], limit: u64) -> Answer
     ensures { λ r. ⌜ Meets (commitOf (now (table .entry))) limit (now (table .entry)) (now (table .exit)) r ⌝ }
 {
-    let surveyed = entries::check::survey_table(table);
-    match surveyed {
-        Surveyed::Refused(x) => Answer::Refused(x),
-        Surveyed::Sound(g, item) => {
-            let admission = admit_commit(table, g, item);
-            match admission {
-                Admission::Turned(x) => Answer::Refused(x),
-                Admission::Admitted => {
-                    let left = commit_stores(table, limit, g);
-                    let stores = limit - left;
-                    Answer::Done { value: 0, stores }
-                }
-            }
+    let checked = ready(table);
+    match checked {
+        Checked::Failed(x) => Answer::Refused(x),
+        Checked::Passed(g) => {
+            let left = commit_stores(table, limit, g);
+            let stores = limit - left;
+            Answer::Done { value: 0, stores }
         }
     }
 }

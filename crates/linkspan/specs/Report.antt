@@ -49,6 +49,11 @@ pub record RecoverReports (a : Asked) (limit : ℕ) (t t′ s s′ : List ℕ) (
   pub reports : Reports a limit t t′ value stores r
   pub scratch : s′ ≡ askedScratch a s
 
+-- and of a question, which stores nothing and takes no limit: its number, and the value that it tells
+pub record Tells (p : Plan) (value r : ℕ) : Type 0 where
+  pub answered : r ≡ numbersAt p 0 .answer
+  pub valued : value ≡ numbersAt p 0 .value
+
 -- ---- numbers that stand for an argument: a place is 0 or 1, and so is whether a node was lost. Any other number is malformed.
 
 -- "place 1 (0 current, 1 kept; in Recover 1 means none lost)"

@@ -1,9 +1,10 @@
-// The calls of checkpoints: Open, Create, Commit, Abandon.
+// The calls of checkpoints: Open, Create, Commit, Abandon; and how long a Commit will be.
 ghost use Rattle.checkpoints.specs.Open.{openOf};
 ghost use Rattle.checkpoints.specs.Create.{createOf};
-ghost use Rattle.checkpoints.specs.Commit.{commitOf, abandonOf};
-ghost use Rattle.linkspan.specs.Report.{planned, Reports};
+ghost use Rattle.checkpoints.specs.Commit.{commitOf, commitLengthOf, abandonOf};
+ghost use Rattle.linkspan.specs.Report.{planned, Reports, Tells};
 use crate::report;
+use table::answers;
 
 // Opens a checkpoint.
 #[no_mangle]
@@ -45,6 +46,17 @@ pub extern "C" fn linkspan_commit(
 {
     let answer = checkpoints::commit::commit(table, limit);
     report::report(answer, value, stores)
+}
+
+// How many stores `linkspan_commit` would make of this table; 0 on a refusal.
+#[no_mangle]
+pub extern "C" fn linkspan_commit_length(table: &[u64], length: &mut u64) -> u64
+    ensures { λ r. ⌜ Tells (commitLengthOf (now (table .entry))) (now (length .exit)) r ⌝ }
+{
+    let answer = checkpoints::length::commit_length(table);
+    let numbers = answers::numbers_of(answer);
+    *length = numbers.value;
+    numbers.answer
 }
 
 // Gives the open checkpoint up.

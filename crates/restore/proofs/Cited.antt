@@ -14,7 +14,7 @@ use Rattle.calls.specs.Read.{readOf}
 use Rattle.calls.specs.Write.{writeOf}
 use Rattle.checkpoints.specs.Open.{openOf}
 use Rattle.checkpoints.specs.Create.{createOf}
-use Rattle.checkpoints.specs.Commit.{commitOf, abandonOf}
+use Rattle.checkpoints.specs.Commit.{commitOf, commitLengthOf, abandonOf}
 use Rattle.recovery.specs.Recover.{recoverOf, RecoverMeets}
 use Rattle.restore.specs.Call.{CarriedOut}
 use Rattle.restore.specs.Rehearsal.{Rehearsed}
@@ -45,6 +45,9 @@ use Rattle.checkpoints.proofs.create.create.Reads as create-reads
 use Rattle.checkpoints.proofs.commit.commit as commit
 use Rattle.checkpoints.proofs.commit.commit.Kinds as commit-kinds
 use Rattle.checkpoints.proofs.commit.commit.Reads as commit-reads
+use Rattle.checkpoints.proofs.length.commit_length as commit-length
+use Rattle.checkpoints.proofs.length.commit_length.Kinds as commit-length-kinds
+use Rattle.checkpoints.proofs.length.commit_length.Reads as commit-length-reads
 use Rattle.checkpoints.proofs.abandon.abandon as abandon
 use Rattle.checkpoints.proofs.abandon.abandon.Kinds as abandon-kinds
 use Rattle.checkpoints.proofs.abandon.abandon.Reads as abandon-reads
@@ -111,6 +114,12 @@ pub commit-says :
     (s : Clauses.AtExit (Kinds.endedOf 1 commit-kinds.ps commit-kinds.r) κs) → commit-reads.Learnt κs a r s
     → Meets (commitOf (now (a .0))) (a .1 .0) (now (a .0)) (now (s .0)) r
 commit-says κs a r s h = h
+
+pub commit-length-says :
+    (κs : Lifetimes.Lfts 1) (a : World.ArgsD commit-length.signature κs) (r : World.ResD commit-length.signature κs)
+    (s : Clauses.AtExit (Kinds.endedOf 1 commit-length-kinds.ps commit-length-kinds.r) κs) → commit-length-reads.Learnt κs a r s
+    → Told (commitLengthOf (now (a .0))) (now (a .0)) r
+commit-length-says κs a r s h = h
 
 pub abandon-says :
     (κs : Lifetimes.Lfts 1) (a : World.ArgsD abandon.signature κs) (r : World.ResD abandon.signature κs)

@@ -55,6 +55,15 @@ pub(crate) fn same_answer(vector: u64, v: Vector, got: Numbers) -> bool {
     answer & value & stores
 }
 
+// Whether a commit is as its length was told before: refused likewise, or with as many stores as its limit lets through.
+pub(crate) fn same_length(vector: u64, v: Vector, told: Numbers) -> bool {
+    let answer = same_number(vector, b" length's answer", told.answer, v.answer);
+    if told.value < v.limit {
+        return answer & same_number(vector, b" length", told.value, v.stores);
+    }
+    answer & same_number(vector, b" length", v.limit, v.stores)
+}
+
 // Whether the word at a place is.
 fn same_word(vector: u64, what: &[u8], at: usize, got: u64, expected: u64) -> bool {
     if got == expected {

@@ -30,6 +30,15 @@ enum Outcome {
     Malformed,
 }
 
+// Whether a vector that commits is as its length is told beforehand.
+fn as_told(number: u64, v: Vector, table: &[u64]) -> bool {
+    if v.operation == operations::COMMIT {
+        let told = checkpoints::length::commit_length(table);
+        return compare::same_length(number, v, answers::numbers_of(told));
+    }
+    true
+}
+
 // Runs a vector's call, and compares.
 fn run_call(
     number: u64,
@@ -43,11 +52,12 @@ fn run_call(
     match named {
         Operation::Unknown => Outcome::Malformed,
         Operation::Known(call) => {
+            let told = as_told(number, v, table);
             let answer = restore::call::carry_out(table, call, scratch, v.limit);
             let answered = compare::same_answer(number, v, answers::numbers_of(answer));
             let stored = compare::same_words(number, b" table ", table, expected);
             let cleared = compare::same_words(number, b" scratch ", scratch, left);
-            if answered & stored & cleared {
+            if told & answered & stored & cleared {
                 return Outcome::Same;
             }
             Outcome::Differs

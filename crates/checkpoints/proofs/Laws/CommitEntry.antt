@@ -34,7 +34,7 @@ abbrev pub committedBy : Bool → Entry → Entry
 committedBy q e = record { state = cond q (stateWord (changeOf (current e) Commit) invalid) (e .state); value = e .value; keptValue = e .keptValue }
 
 abbrev pub committed : Entry → Entry
-committed e = committedBy (toCommit e) e
+committed e = committedBy (toCommit (e .state)) e
 
 -- at the end the two copies are one
 pub record Closed (e₀ e : Entry) : Type 0 where
@@ -106,18 +106,18 @@ module _ (e : Entry) (form : stateForm (e .state) ≡ true) (plain : owns (curre
   changed-agrees =
       ap₂ (λ i j. backBy i j (e .value) (e .keptValue)) (ap checkpointOf code-is ∙ facts .agree ∙ sym (ap forwards code-is)) kept-is
 
-  stays-agrees : toCommit e ≡ false → backCopy e ≡ forwardCopy e
+  stays-agrees : toCommit (e .state) ≡ false → backCopy e ≡ forwardCopy e
   stays-agrees h =
       let (p, q) = neither (isPrecommit (current e)) (not (eqb (kept e) invalid)) h in
       ap₂ (λ i j. backBy i j (e .value) (e .keptValue)) (facts .stays p) (eqb-true (kept e) 0 (not-false (eqb (kept e) 0) q))
 
   pub commit-steps : Steps (SafeForward e) (Closed e) e (commitChange e)
   unfolding commitChange
-  commit-steps = go (toCommit e) refl
+  commit-steps = go (toCommit (e .state)) refl
     where
       begin : SafeForward e e
       begin = record { forward = refl; form = form; frames = omega arith }
 
-      go : (q : Bool) → toCommit e ≡ q → Steps (SafeForward e) (Closed e) e (cond q (stateTo next-code invalid ∷ []) [])
+      go : (q : Bool) → toCommit (e .state) ≡ q → Steps (SafeForward e) (Closed e) e (cond q (stateTo next-code invalid ∷ []) [])
       go true h = next begin (last commit-safe (record { entry = rw h refl; agree = changed-agrees }))
       go false h = last begin (record { entry = rw h refl; agree = stays-agrees h })

@@ -30,7 +30,7 @@ use Rattle.homes.proofs.Laws.Serves.{CurrentHave, BackHave, Serves, same-geomet
 module _ (e : Entry) (z : current e ≡ 0) where
   still-invalid : current (committed e) ≡ 0
   unfolding changeOf
-  still-invalid = go (toCommit e)
+  still-invalid = go (toCommit (e .state))
     where
       code : changeOf (current e) Commit ≡ 0
       code = rw z refl

@@ -59,24 +59,24 @@ code-low c h = ltb-true _ 16 (every-at 8 lowRule refl c h)
 
 module _ (e : Entry) (form : stateForm (e .state) ≡ true) where
   committed-current : owns (current e) ≡ false → current (committed e) ≡ changeOf (current e) Commit
-  committed-current plain = go (toCommit e) refl
+  committed-current plain = go (toCommit (e .state)) refl
     where
-      go : (q : Bool) → toCommit e ≡ q → current (committedBy q e) ≡ changeOf (current e) Commit
+      go : (q : Bool) → toCommit (e .state) ≡ q → current (committedBy q e) ≡ changeOf (current e) Commit
       go true h = current-state (changeOf (current e) Commit) 0 (code-low (current e) (form-facts (e .state) form .code)) (omega arith)
       go false h =
           sym (code-stays (current e) (form-facts (e .state) form .code) plain
           (neither (isPrecommit (current e)) (not (eqb (kept e) invalid)) h .0))
 
   committed-kept : kept (committed e) ≡ 0
-  committed-kept = go (toCommit e) refl
+  committed-kept = go (toCommit (e .state)) refl
     where
-      go : (q : Bool) → toCommit e ≡ q → kept (committedBy q e) ≡ 0
+      go : (q : Bool) → toCommit (e .state) ≡ q → kept (committedBy q e) ≡ 0
       go true h = kept-state (changeOf (current e) Commit) 0 (code-low (current e) (form-facts (e .state) form .code)) (omega arith)
       go false h = eqb-true (kept e) 0 (not-false (eqb (kept e) 0) (neither (isPrecommit (current e)) (not (eqb (kept e) invalid)) h .1))
 
 committed-same : (e : Entry) → isPrecommit (current e) ≡ false → kept e ≡ 0 → committed e ≡ e
 committed-same e h k =
-    let c : toCommit e ≡ false = rw (h, eq-eqb (kept e) 0 k) refl in
+    let c : toCommit (e .state) ≡ false = rw (h, eq-eqb (kept e) 0 k) refl in
     rw c refl
 
 no-keep-at : (v : View) (b n : ℕ) → kept (v .entry n b) ≡ 0 → keptCopy v b n ≡ false

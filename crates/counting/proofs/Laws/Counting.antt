@@ -6,7 +6,7 @@ use native.Mathlib.Omega.{arith}
 use native.Mathlib.Numerals.{add-one}
 use native.Mathlib.Decide.{ℕ-discrete}
 use mir.Val.{boolByte}
-use Rattle.counting.proofs.Laws.Tests.{both, and-both, and-mixed, no-both, by-cases}
+use Rattle.counting.proofs.Laws.Tests.{both, and-both, and-mixed, and-no, no-both, by-cases}
 use Rattle.counting.specs.Counting.{every, sum, one, count}
 use Rattle.counting.specs.code.Counting.{Counted}
 
@@ -139,6 +139,11 @@ sum-count p (suc n) = omega (arith, sum-count p n)
 
 -- ---- counts
 
+-- by rows and by columns
+pub count-swap : (p : ℕ → ℕ → Bool) (n m : ℕ) → sum (λ i. count (p i) m) n ≡ sum (λ j. count (λ i. p i j) n) m
+count-swap p n m =
+    sum-ext n _ _ (λ i _. sym (sum-count (p i) m)) ∙ sum-swap (λ i j. one (p i j)) n m ∙ sum-ext m _ _ (λ j _. sum-count (λ i. p i j) n)
+
 pub one-le : (b : Bool) → one b ≤ 1
 one-le true = omega arith
 one-le false = omega arith
@@ -185,23 +190,23 @@ count-some (suc n) p m h e =
 pub none-counted : (n : ℕ) (p : ℕ → Bool) → count p n ≡ 0 → (m : ℕ) → m < n → p m ≡ false
 none-counted n p h m l = by-cases (p m) (λ e. absurd (omega (arith, count-some n p m l e))) (λ e. e)
 
--- two tests that exclude each other
-one-or : (a x y : Bool) → (x && y) ≡ false → one (a && (x || y)) ≡ one (a && x) + one (a && y)
-one-or true true true h = absurd (no-both refl h)
-one-or true true false h = refl
-one-or true false true h = refl
-one-or true false false h = refl
-one-or false true true h = refl
-one-or false true false h = refl
-one-or false false true h = refl
-one-or false false false h = refl
+-- both tests or one of them, with a third: those of each together
+one-both : (a p q : Bool) → one (a && (p || q)) + one (a && (p && q)) ≡ one (a && p) + one (a && q)
+one-both true true q = omega arith
+one-both true false q = omega arith
+one-both false p q = refl
+
+pub count-both :
+    (n : ℕ) (a p q : ℕ → Bool)
+    → count (λ m. a m && (p m || q m)) n + count (λ m. a m && (p m && q m)) n ≡ count (λ m. a m && p m) n + count (λ m. a m && q m) n
+unfolding count
+count-both zero a p q = refl
+count-both (suc n) a p q = omega (arith, count-both n a p q, one-both (a n) (p n) (q n))
 
 pub count-or :
     (n : ℕ) (a p q : ℕ → Bool) → ((m : ℕ) → (p m && q m) ≡ false)
     → count (λ m. a m && (p m || q m)) n ≡ count (λ m. a m && p m) n + count (λ m. a m && q m) n
-unfolding count
-count-or zero a p q h = refl
-count-or (suc n) a p q h = omega (arith, count-or n a p q h, one-or (a n) (p n) (q n) (h n))
+count-or n a p q h = omega (arith, count-both n a p q, count-zero n (λ m. a m && (p m && q m)) (λ m _. and-no (a m) (h m)))
 
 -- a test that implies another counts no more, and as many only where they agree
 one-mono : (a b : Bool) → (a ≡ true → b ≡ true) → one a ≤ one b

@@ -20,7 +20,7 @@ use Rattle.table.specs.Geometry.{entryWords, entryAt}
 use Rattle.entries.specs.Check.{sizesOf, faultOf}
 use Rattle.entries.proofs.Laws.CheckFacts.{sizes-facts}
 use Rattle.table.specs.Answers.{Plan, refuse, nothingLeft, carry, Told}
-use Rattle.table.proofs.Laws.Answers.{told-yes}
+use Rattle.table.proofs.Laws.Answers.{told-done}
 use Rattle.layout.specs.Stretch.{checkedPlan, checkOf, stretchChecked, stretchOf, stretchPart, spanBy, Spanned}
 
 -- ---- the ways of the code
@@ -117,4 +117,4 @@ module _ (t : List ℕ) (n : ℕ) where
       where
         go : (c : Checked) → spanBy n (stretchChecked n c) ≡ Entries start end → Told (stretchChecked n c) t (Done 0 0)
         go (Failed x) e = absurd (never-entries e)
-        go (Passed g) e = by-cases (leb (g .nodes) n) (λ l. absurd (never-entries (rw l at e))) (λ l. rw l (told-yes t refl))
+        go (Passed g) e = by-cases (leb (g .nodes) n) (λ l. absurd (never-entries (rw l at e))) (λ l. rw l (told-done t refl))

@@ -6,7 +6,7 @@ use Rattle.table.specs.declared.answers.Answer.{Answer}
 use Rattle.table.specs.declared.answers.Numbers.{Numbers}
 use Rattle.table.specs.Answers.{malformedNumbers, Plan, numbersOf, numbersAt, Meets, Told}
 use Rattle.recovery.specs.Recover.{RecoverMeets}
-use Rattle.linkspan.specs.Report.{Asked, malformed, planned, HandedOut, Reports, RecoverReports}
+use Rattle.linkspan.specs.Report.{Asked, malformed, planned, HandedOut, Reports, RecoverReports, Tells}
 
 -- ---- the ways of the code
 
@@ -39,3 +39,7 @@ reports-call m h = reports-planned refl m h
 -- a call that stores nothing: its number
 pub told-number : {p : Plan} {t : List ℕ} {answer : Answer} {n : Numbers} → Told p t answer → n ≡ numbersOf answer → n .answer ≡ numbersAt p 0 .answer
 told-number m e = ap (λ (x : Numbers). x .answer) (e ∙ m .meets 0 .numbers)
+
+-- and its value
+pub told-tells : {p : Plan} {t : List ℕ} {answer : Answer} {n : Numbers} → Told p t answer → n ≡ numbersOf answer → Tells p (n .value) (n .answer)
+told-tells m e = record { answered = told-number m e; valued = ap (λ (x : Numbers). x .value) (e ∙ m .meets 0 .numbers) }

@@ -124,7 +124,7 @@ create-length g v b o = omega (arith, partner-short g v b o)
 
 close-short : (way : Closing) (e : Entry) → length (closeChange way e) ≤ 1
 unfolding closeChange commitChange abandonChange
-close-short Committed e = cond-short (toCommit e) _ [] 1 (omega arith) (omega arith)
+close-short Committed e = cond-short (toCommit (e .state)) _ [] 1 (omega arith) (omega arith)
 close-short Abandoned e = cond-short (isPrecommit (current e)) _ [] 1 (omega arith) (omega arith)
 
 pub commit-length : (g : Geometry) (v : View) → length (commitStores g v) ≤ g .nodes + g .nodes * g .items * 1 + g .nodes

@@ -31,5 +31,12 @@ numbers-refused h k = rw (h, k) refl
 pub told-refused : {p : Plan} {x : Refusal} (t : List ℕ) → p ≡ refuse x → Told p t (Refused x)
 told-refused t h = record { meets = λ limit. meets-refused limit t h }
 
-pub told-yes : {p : Plan} {g : Geometry} (t : List ℕ) → p ≡ carry g 0 [] → Told p t (Done 0 0)
-told-yes t h = record { meets = λ limit. rw h (record { answer = ap (Done 0) (omega arith); numbers = ap (λ k. numbersOf (Done 0 k)) (omega arith); table = sym (after-none _ limit t) }) }
+pub told-done : {p : Plan} {g : Geometry} {value : ℕ} (t : List ℕ) → p ≡ carry g value [] → Told p t (Done value 0)
+told-done {value = value} t h =
+    record {
+      meets = λ limit. rw h (record {
+        answer = ap (Done value) (omega arith);
+        numbers = ap (λ k. numbersOf (Done value k)) (omega arith);
+        table = sym (after-none _ limit t);
+      });
+    }
