@@ -45,7 +45,8 @@ commitAdmission g v = createdAdmission g v (openAdmission g v)
 abbrev pub commitOf : List ℕ → Plan
 commitOf t = planBy commitAdmission (λ g v. carry g 0 (commitStores g v)) t
 
--- ---- how long it will be: asked before, Commit's own refusals, or the number of its stores as the value; nothing is stored
+-- ---- how long it will be, asked before: Commit's own refusals, or the number of its stores as the value; nothing is
+-- stored
 
 abbrev pub lengthTold : Plan → Plan
 lengthTold (refuse x) = refuse x

@@ -1,5 +1,5 @@
--- HOW LONG A SAVE IS, as one type. "A finished commit's count is exactly 2k + 4d − c, where c counts the live entries with a Precommit and an Inv-CK
--- side by side." All is counted on the table at entry.
+-- HOW LONG A SAVE IS, as one type. "A finished commit's count is exactly 2k + 4d − c, where c counts the live entries
+-- with a Precommit and an Inv-CK side by side." All is counted on the table at entry.
 use Prim.Native.Nat.{ℕ, _+_, _-_, _*_, _≤_, min}
 use mathlib.Core.Path.{_≡_}
 use mathlib.Core.Bool.{Bool, not, _&&_}
@@ -57,4 +57,5 @@ pub record CommitCounted (t : List ℕ) (g : Geometry) (ss : List Store) : Type 
 
 -- of every table on which Commit is carried out
 pub record CommitCount : Type 0 where
-  pub counted : (t : List ℕ) (g : Geometry) (value : ℕ) (ss : List Store) → commitOf t ≡ carry g value ss → CommitCounted t g ss
+  pub counted :
+      (t : List ℕ) (g : Geometry) (value : ℕ) (ss : List Store) → commitOf t ≡ carry g value ss → CommitCounted t g ss

@@ -73,8 +73,8 @@ pub(crate) fn marks_to(table: &mut [u64], left: u64, g: Geometry, word: u64) -> 
     left
 }
 
-// Whether a commit stores in the entry of this state word: where Precommit or Inv-CK stands. With its four top bits, the
-// current place, moved to the end, the word of any other entry is that place's code, which is under 6.
+// Whether a commit stores in the entry of this state word: where Precommit or Inv-CK stands. With its four top bits,
+// the current place, moved to the end, the word of any other entry is that place's code, which is under 6.
 pub(crate) fn commits_in(state: u64) -> bool
     ensures { λ r. ⌜ r ≡ toCommit state ⌝ }
 {

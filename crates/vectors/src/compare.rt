@@ -55,7 +55,7 @@ pub(crate) fn same_answer(vector: u64, v: Vector, got: Numbers) -> bool {
     answer & value & stores
 }
 
-// Whether a commit is as its length was told before: refused likewise, or with as many stores as its limit lets through.
+// Whether a commit is as its length was told before: refused likewise, or with as many stores as its limit allows.
 pub(crate) fn same_length(vector: u64, v: Vector, told: Numbers) -> bool {
     let answer = same_number(vector, b" length's answer", told.answer, v.answer);
     if told.value < v.limit {

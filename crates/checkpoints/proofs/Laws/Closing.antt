@@ -18,13 +18,16 @@ use Rattle.checkpoints.specs.Checkpoint.{isPrecommit, toCommit, commitCh
 -- ---- the ways of the code
 
 -- what a commit asks of a state word
-pub commits-asked : (w : ℕ) {c k : ℕ} → c ≡ currentOf w → k ≡ keptOf w → (isPrecommit c || not (eqb k invalid)) ≡ toCommit w
+pub commits-asked :
+    (w : ℕ) {c k : ℕ} → c ≡ currentOf w → k ≡ keptOf w → (isPrecommit c || not (eqb k invalid)) ≡ toCommit w
 commits-asked w p q = rw (p, q) refl
 
 -- an entry of this state word
 module _ (e : Entry) {state : ℕ} (h : state ≡ e .state) where
   module _ {q : Bool} (k : q ≡ toCommit state) where
-    pub commit-changes : q ≡ true → {c next : ℕ} → c ≡ currentOf state → next ≡ changeOf c Commit → commitChange e ≡ stateTo next invalid ∷ []
+    pub commit-changes :
+        q ≡ true → {c next : ℕ} → c ≡ currentOf state → next ≡ changeOf c Commit
+        → commitChange e ≡ stateTo next invalid ∷ []
     unfolding commitChange
     commit-changes y p n = rw (← h, ← k, y, n, p) refl
 
@@ -36,7 +39,9 @@ module _ (e : Entry) {state : ℕ} (h : state ≡ e .state) where
     current-is : c ≡ current e
     current-is = p ∙ ap currentOf h
 
-    pub abandon-changes : {k : ℕ} → k ≡ keptOf state → isPrecommit c ≡ true → {next : ℕ} → next ≡ changeOf c Abandon → abandonChange e ≡ stateTo next k ∷ []
+    pub abandon-changes :
+        {k : ℕ} → k ≡ keptOf state → isPrecommit c ≡ true → {next : ℕ} → next ≡ changeOf c Abandon
+        → abandonChange e ≡ stateTo next k ∷ []
     unfolding abandonChange
     abandon-changes q y n = rw (← current-is, y, n, q, h) refl
 
@@ -56,7 +61,9 @@ pub commits-not : (w : ℕ) → w % 2 ^ 60 * 16 + w / 2 ^ 60 < 6 → false ≡ t
 commits-not w l =
     let c : currentOf w < 6 = omega arith in
     let k : keptOf w ≡ 0 = omega arith in
-    rw (ne-eqb (currentOf w) precommit1 (λ z. omega arith), ne-eqb (currentOf w) precommit2 (λ z. omega arith), eq-eqb (keptOf w) 0 k) refl
+    let p = ne-eqb (currentOf w) precommit1 (λ z. omega arith) in
+    let q = ne-eqb (currentOf w) precommit2 (λ z. omega arith) in
+    rw (p, q, eq-eqb (keptOf w) 0 k) refl
 
 module _ {way : Closing} (e : Entry) where
   pub close-commits : way ≡ Committed → closeChange way e ≡ commitChange e

@@ -1,4 +1,5 @@
--- THE THEOREM of how long a save is: two stores for each live node, four for each created item, less one where a Precommit and an Inv-CK stand in one entry.
+-- THE THEOREM of how long a save is: two stores for each live node, four for each created item, less one where a
+-- Precommit and an Inv-CK stand in one entry.
 use Prim.Native.Nat.{ℕ, zero, suc, _+_, _*_, _≤_, _<_, min}
 use mathlib.Core.Path.{_≡_, refl, sym, ap, ap₂, _∙_}
 use mathlib.Core.Bool.{Bool, true, false, cond, not, _&&_, _||_}
@@ -59,7 +60,8 @@ module _ (g : Geometry) (v : View) where
 
   at-one : (n b : ℕ) → length (stores-at n b) ≡ one (stored v n b)
   unfolding liveChanges closeChange commitChange
-  at-one n b = go (live v n) (toCommit (v .entry n b .state)) (stateTo (changeOf (current (v .entry n b)) Commit) invalid)
+  at-one n b =
+      go (live v n) (toCommit (v .entry n b .state)) (stateTo (changeOf (current (v .entry n b)) Commit) invalid)
     where
       go : (x y : Bool) (c : Change) → length (map (entryStore n b) (cond x (cond y (c ∷ []) []) [])) ≡ one (x && y)
       go true true c = refl
@@ -78,7 +80,8 @@ module _ (g : Geometry) (v : View) where
       ∙ sum-ext (g .nodes) _ _ (λ n _. node-count n (g .items))
 
   -- the marks twice, and the entries
-  pub commit-parts : length (commitStores g v) ≡ 2 * count (live v) (g .nodes) + sum (λ n. count (stored v n) (g .items)) (g .nodes)
+  pub commit-parts :
+      length (commitStores g v) ≡ 2 * count (live v) (g .nodes) + sum (λ n. count (stored v n) (g .items)) (g .nodes)
   unfolding commitStores
   commit-parts =
       omega (
@@ -95,7 +98,9 @@ module _ (g : Geometry) (v : View) where
 module _ (v : View) (N b : ℕ) (forms : (n : ℕ) → n < N → live v n ≡ true → stateForm (v .entry n b .state) ≡ true) where
   -- the Precommits and the Inv-CKs that live nodes have
   abbrev four : ℕ
-  four = (count (has v b precommit1) N + count (has v b precommit2) N) + (count (hasKept v b invCK1) N + count (hasKept v b invCK2) N)
+  four =
+      (count (has v b precommit1) N + count (has v b precommit2) N)
+      + (count (hasKept v b invCK1) N + count (hasKept v b invCK2) N)
 
   kept-two : (k : ℕ) → k < 3 → not (eqb k invalid) ≡ (eqb k invCK1 || eqb k invCK2)
   kept-two zero h = refl
@@ -108,7 +113,8 @@ module _ (v : View) (N b : ℕ) (forms : (n : ℕ) → n < N → live v n ≡ tr
       let k : ℕ → ℕ = λ n. kept (v .entry n b) in
       count-ext N (keptCopy v b) (λ n. live v n && (eqb (k n) invCK1 || eqb (k n) invCK2))
       (λ n l. and-same (live v n) _ _ (λ t. kept-two (k n) (form-facts (v .entry n b .state) (forms n l t) .keptCode)))
-      ∙ count-or N (live v) (λ n. eqb (k n) invCK1) (λ n. eqb (k n) invCK2) (λ n. eqb-apart (k n) invCK1 invCK2 (λ z. omega arith))
+      ∙ count-or N (live v) (λ n. eqb (k n) invCK1) (λ n. eqb (k n) invCK2)
+      (λ n. eqb-apart (k n) invCK1 invCK2 (λ z. omega arith))
 
   -- each of the four is stored in once, and two of them that stand in one entry together
   item-four : count (λ n. stored v n b) N + count (λ n. beside v n b) N ≡ four
@@ -131,11 +137,16 @@ module _ (v : View) (N b : ℕ) (forms : (n : ℕ) → n < N → live v n ≡ tr
       omega (
         arith,
         two-codes v N b precommit1 precommit2 (λ z. omega arith),
-        count-zero N (λ n. live v n && isPrecommit (current (v .entry n b)))
-            (λ n l. by-cases (live v n) (λ t. and-no (live v n) (not-precommit cleanCode v b n refl refl t (k .others n l))) (λ t. rw t refl)),
+        count-zero N (λ n. live v n && isPrecommit (current (v .entry n b))) none,
         keeps-two,
         count-zero N (keptCopy v b) (k .nothing),
       )
+    where
+      none : (n : ℕ) → n < N → (live v n && isPrecommit (current (v .entry n b))) ≡ false
+      none n l =
+          by-cases (live v n)
+          (λ t. and-no (live v n) (not-precommit cleanCode v b n refl refl t (k .others n l)))
+          (λ t. rw t refl)
 
   clean-not-created : Clean v N b → isCreated (countsOf v b N) ≡ false
   clean-not-created k = let z : count (has v b precommit1) N ≡ 0 = omega (arith, clean-four k) in rw z refl
@@ -143,7 +154,9 @@ module _ (v : View) (N b : ℕ) (forms : (n : ℕ) → n < N → live v n ≡ tr
 -- ---- the whole list
 
 module _ (g : Geometry) (v : View) (phase number : ℕ) (good : SoundTable g v phase number) (admitted : commitAdmission g v ≡ Admitted) where
-  item-count : (b : ℕ) → b < g .items → count (λ n. stored v n b) (g .nodes) + count (λ n. beside v n b) (g .nodes) ≡ 4 * one (createdIn g v b)
+  item-count :
+      (b : ℕ) → b < g .items
+      → count (λ n. stored v n b) (g .nodes) + count (λ n. beside v n b) (g .nodes) ≡ 4 * one (createdIn g v b)
   item-count b h = item-four v (g .nodes) b forms ∙ go (good .items b h)
     where
       forms : (n : ℕ) → n < g .nodes → live v n ≡ true → stateForm (v .entry n b .state) ≡ true
@@ -172,17 +185,21 @@ module _ (g : Geometry) (v : View) (phase number : ℕ) (good : SoundTable g v p
 pub commit-count : CommitCount
 commit-count = record { counted = counts }
   where
-    counts : (t : List ℕ) (g : Geometry) (value : ℕ) (ss : List Store) → commitOf t ≡ carry g value ss → CommitCounted t g ss
+    counts :
+        (t : List ℕ) (g : Geometry) (value : ℕ) (ss : List Store) → commitOf t ≡ carry g value ss → CommitCounted t g ss
     counts t g value ss accepted =
         let k = carried t accepted in
         let v = view g t in
         let good = facts t accepted .table in
-        let whole : length ss + liveSideBySide g v ≡ commitBound g v = rw (k .stores-are) (stores-together g v _ _ good (k .admitted)) in
-        let few : liveSideBySide g v ≤ 4 * createdItems g v = omega (arith, entries-together g v _ _ good (k .admitted)) in
+        let whole : length ss + liveSideBySide g v ≡ commitBound g v =
+        rw (k .stores-are) (stores-together g v _ _ good (k .admitted)) in
+        let few : liveSideBySide g v ≤ 4 * createdItems g v =
+        omega (arith, entries-together g v _ _ good (k .admitted)) in
+        let zero-value = acted-value commitAdmission (λ g v. 0) commitStores t accepted in
         let exact : length ss ≡ commitLength g v = omega arith in
         record {
           together = whole;
           within = few;
-          answered = λ limit. rw accepted (ap₂ Done (acted-value commitAdmission (λ g v. 0) commitStores t accepted) (ap (min limit) exact));
+          answered = λ limit. rw accepted (ap₂ Done zero-value (ap (min limit) exact));
           told = rw accepted (ap (λ n. carry g n []) exact);
         }

@@ -1,7 +1,7 @@
 -- Laws of `specs/code/CommitCode.antt`: a commit's stores, node by node.
 use Prim.Native.Nat.{ℕ, _+_, _*_, _≤_, _<_}
 use mathlib.Core.Path.{_≡_, refl, sym, ap, _∙_}
-use mathlib.Core.Bool.{Bool}
+use mathlib.Core.Bool.{Bool, true}
 use mathlib.Core.List.{List, []}
 use mir.Val.{boolByte}
 use native.Mathlib.Omega.{arith}
@@ -28,14 +28,19 @@ use Rattle.checkpoints.proofs.Laws.CommitCount.{stored, commit-parts}
 
 -- ---- a live node's entries, which begin at `start`
 
-pub row-turn :
-    (t : List ℕ) (start b : ℕ) {at found : ℕ} {q : Bool} → at ≡ start + entryWords * b → found ≡ count (λ b. toCommit (getD t (start + entryWords * b) 0)) b
-    → q ≡ toCommit (getD t at 0) → found + boolByte q ≡ count (λ b. toCommit (getD t (start + entryWords * b) 0)) (b + 1)
-row-turn t start b {q = q} place h k =
-    let same : one q ≡ one (toCommit (getD t (start + entryWords * b) 0)) = ap one (k ∙ ap (λ at. toCommit (getD t at 0)) place) in
-    omega (arith, count-next (λ b. toCommit (getD t (start + entryWords * b) 0)) b, bit-counted q .is)
+-- whether a commit stores in entry b
+abbrev pub row-test : List ℕ → ℕ → ℕ → Bool
+row-test t start b = toCommit (getD t (start + entryWords * b) 0)
 
-module _ (g : Geometry) (t : List ℕ) (n : ℕ) (l : n < g .nodes) (long : wordsOf g ≤ length t) {start : ℕ} (e : start ≡ entryAt g n 0) where
+pub row-turn :
+    (t : List ℕ) (start b : ℕ) {at found : ℕ} {q : Bool} → at ≡ start + entryWords * b
+    → found ≡ count (row-test t start) b → q ≡ toCommit (getD t at 0) → found + boolByte q ≡ count (row-test t start) (b + 1)
+row-turn t start b {q = q} place h k =
+    let same : one q ≡ one (row-test t start b) = ap one (k ∙ ap (λ at. toCommit (getD t at 0)) place) in
+    omega (arith, count-next (row-test t start) b, bit-counted q .is)
+
+module _ (g : Geometry) (t : List ℕ) (n : ℕ) (l : n < g .nodes) (long : wordsOf g ≤ length t) {start : ℕ}
+    (e : start ≡ entryAt g n 0) where
   abbrev lies : (b : ℕ) → b < g .items → Lies g t n b (start + entryWords * b)
   lies b h = record { node = l; item = h; place = omega arith; long = long }
 
@@ -43,11 +48,11 @@ module _ (g : Geometry) (t : List ℕ) (n : ℕ) (l : n < g .nodes) (long : word
   row-within b h = lies-within (lies b h)
 
   pub row-end :
-      {r b : ℕ} → r ≡ count (λ b. toCommit (getD t (start + entryWords * b) 0)) b → b ≤ g .items → g .items ≤ b
+      {r b : ℕ} → r ≡ count (row-test t start) b → b ≤ g .items → g .items ≤ b
       → r ≡ count (λ b. toCommit (view g t .entry n b .state)) (g .items)
   row-end {r} {b} h k m =
       let same : b ≡ g .items = omega arith in
-      h ∙ ap (count (λ b. toCommit (getD t (start + entryWords * b) 0))) same
+      h ∙ ap (count (row-test t start)) same
       ∙ count-ext (g .items) _ _ (λ b h. ap toCommit (lies-state (lies b h)))
 
 -- ---- a node
@@ -58,7 +63,8 @@ module _ (g : Geometry) (v : View) where
     unfolding nodeLength
     length-dead d = rw (← h, eq-eqb mark 0 d) refl
 
-    pub length-live : (mark ≡ 0 → ⊥) → {r : ℕ} → r ≡ count (λ b. toCommit (v .entry n b .state)) (g .items) → 2 + r ≡ nodeLength g v n
+    pub length-live :
+        (mark ≡ 0 → ⊥) → {r : ℕ} → r ≡ count (λ b. toCommit (v .entry n b .state)) (g .items) → 2 + r ≡ nodeLength g v n
     unfolding nodeLength
     length-live d e = rw (← h, ne-eqb mark 0 d, e) refl
 
@@ -67,9 +73,12 @@ module _ (g : Geometry) (v : View) where
   node-parts : (n : ℕ) → nodeLength g v n ≡ 2 * one (live v n) + count (stored v n) (g .items)
   unfolding nodeLength
   node-parts n =
-      by-cases (live v n)
-      (λ t. rw t (omega (arith, count-ext (g .items) (stored v n) (λ b. toCommit (v .entry n b .state)) (λ b _. rw t refl))))
-      (λ t. rw t (omega (arith, count-zero (g .items) (stored v n) (λ b _. rw t refl))))
+      by-cases (live v n) alive (λ t. rw t (omega (arith, count-zero (g .items) (stored v n) (λ b _. rw t refl))))
+    where
+      alive : live v n ≡ true → nodeLength g v n ≡ 2 * one (live v n) + count (stored v n) (g .items)
+      alive t =
+          let same = count-ext (g .items) (stored v n) (λ b. toCommit (v .entry n b .state)) (λ b _. rw t refl) in
+          rw t (omega arith)
 
   pub length-all : {a n : ℕ} → a ≡ sum (nodeLength g v) n → n ≤ g .nodes → g .nodes ≤ n → a ≡ length (commitStores g v)
   length-all {a} {n} h l m =
@@ -86,7 +95,9 @@ module _ (t : List ℕ) {c : Checked} (h : c ≡ readyOf t) where
   pub length-refused : {x : Refusal} → c ≡ Failed x → commitLengthOf t ≡ refuse x
   length-refused e = ap lengthTold (ready-refused t h _ e)
 
-  pub length-is : {g : Geometry} → c ≡ Passed g → {n : ℕ} → n ≡ length (commitStores g (view g t)) → commitLengthOf t ≡ carry g n []
+  pub length-is :
+      {g : Geometry} → c ≡ Passed g → {n : ℕ} → n ≡ length (commitStores g (view g t)) → commitLengthOf t ≡ carry g n []
   length-is {g} e {n} k =
       let r = ready-passed t h e in
-      ap lengthTold (plan-admitted commitAdmission _ t refl (r .0) refl (r .1)) ∙ ap (λ n. carry g n []) (sym k)
+      ap lengthTold (plan-admitted commitAdmission _ t refl (r .passed) refl (r .admitted))
+      ∙ ap (λ n. carry g n []) (sym k)

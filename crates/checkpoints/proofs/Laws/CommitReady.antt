@@ -35,28 +35,42 @@ module _ (t : List ℕ) where
 
   -- ---- what it tells
 
+  -- the table passed its checks, and Commit admits it
+  pub record Ready (g : Geometry) : Type 0 where
+    pub passed : faultOf t ≡ Passed g
+    pub admitted : commitAdmission g (view g t) ≡ Admitted
+
   module _ {c : Checked} (h : c ≡ readyOf t) where
-    -- a refusal is every plan's with these admissions
-    pub ready-refused : (acts : Geometry → View → Plan) {x : Refusal} → c ≡ Failed x → planBy commitAdmission acts t ≡ refuse x
+    -- a refusal is that of every plan with Commit's admission
+    pub ready-refused :
+        (acts : Geometry → View → Plan) {x : Refusal} → c ≡ Failed x → planBy commitAdmission acts t ≡ refuse x
     unfolding readyOf readyChecked readyBy
     ready-refused acts {x} e = checked (faultOf t) refl (sym h ∙ e)
       where
-        admitted : {g : Geometry} → Passed g ≡ faultOf t → (a : Admission) → a ≡ commitAdmission g (view g t) → readyBy g a ≡ Failed x → planBy commitAdmission acts t ≡ refuse x
-        admitted p (Turned y) k q = let same : y ≡ x = cc in plan-turned commitAdmission acts t p refl k (ap (λ y. Turned y) same)
-        admitted p Admitted k q = let z : _≡_ {A = ℕ} 0 1 = cc in absurd (omega arith)
+        admits :
+            {g : Geometry} → Passed g ≡ faultOf t → (a : Admission) → a ≡ commitAdmission g (view g t)
+            → readyBy g a ≡ Failed x → planBy commitAdmission acts t ≡ refuse x
+        admits p (Turned y) k q =
+            let same : y ≡ x = cc in
+            plan-turned commitAdmission acts t p refl k (ap (λ y. Turned y) same)
+        admits p Admitted k q = let z : _≡_ {A = ℕ} 0 1 = cc in absurd (omega arith)
 
         checked : (d : Checked) → d ≡ faultOf t → readyChecked t d ≡ Failed x → planBy commitAdmission acts t ≡ refuse x
         checked (Failed y) p q = plan-failed commitAdmission acts t p q
-        checked (Passed g) p q = admitted p (commitAdmission g (view g t)) refl q
+        checked (Passed g) p q = admits p (commitAdmission g (view g t)) refl q
 
-    pub ready-passed : {g : Geometry} → c ≡ Passed g → (faultOf t ≡ Passed g) × (commitAdmission g (view g t) ≡ Admitted)
+    pub ready-passed : {g : Geometry} → c ≡ Passed g → Ready g
     unfolding readyOf readyChecked readyBy
     ready-passed {g} e = checked (faultOf t) refl (sym h ∙ e)
       where
-        admitted : (f : Geometry) → Passed f ≡ faultOf t → (a : Admission) → a ≡ commitAdmission f (view f t) → readyBy f a ≡ Passed g → (faultOf t ≡ Passed g) × (commitAdmission g (view g t) ≡ Admitted)
-        admitted f p (Turned y) k q = let z : _≡_ {A = ℕ} 0 1 = cc in absurd (omega arith)
-        admitted f p Admitted k q = let same : f ≡ g = cc in (sym p ∙ q, sym (rw same at k))
+        admits :
+            (f : Geometry) → Passed f ≡ faultOf t → (a : Admission) → a ≡ commitAdmission f (view f t)
+            → readyBy f a ≡ Passed g → Ready g
+        admits f p (Turned y) k q = let z : _≡_ {A = ℕ} 0 1 = cc in absurd (omega arith)
+        admits f p Admitted k q =
+            let same : f ≡ g = cc in
+            record { passed = sym p ∙ q; admitted = sym (rw same at k) }
 
-        checked : (d : Checked) → d ≡ faultOf t → readyChecked t d ≡ Passed g → (faultOf t ≡ Passed g) × (commitAdmission g (view g t) ≡ Admitted)
+        checked : (d : Checked) → d ≡ faultOf t → readyChecked t d ≡ Passed g → Ready g
         checked (Failed y) p q = let z : _≡_ {A = ℕ} 0 1 = cc in absurd (omega arith)
-        checked (Passed f) p q = admitted f p (commitAdmission f (view f t)) refl q
+        checked (Passed f) p q = admits f p (commitAdmission f (view f t)) refl q

@@ -142,7 +142,8 @@ sum-count p (suc n) = omega (arith, sum-count p n)
 -- by rows and by columns
 pub count-swap : (p : ℕ → ℕ → Bool) (n m : ℕ) → sum (λ i. count (p i) m) n ≡ sum (λ j. count (λ i. p i j) n) m
 count-swap p n m =
-    sum-ext n _ _ (λ i _. sym (sum-count (p i) m)) ∙ sum-swap (λ i j. one (p i j)) n m ∙ sum-ext m _ _ (λ j _. sum-count (λ i. p i j) n)
+    sum-ext n _ _ (λ i _. sym (sum-count (p i) m)) ∙ sum-swap (λ i j. one (p i j)) n m
+    ∙ sum-ext m _ _ (λ j _. sum-count (λ i. p i j) n)
 
 pub one-le : (b : Bool) → one b ≤ 1
 one-le true = omega arith
@@ -198,7 +199,8 @@ one-both false p q = refl
 
 pub count-both :
     (n : ℕ) (a p q : ℕ → Bool)
-    → count (λ m. a m && (p m || q m)) n + count (λ m. a m && (p m && q m)) n ≡ count (λ m. a m && p m) n + count (λ m. a m && q m) n
+    → count (λ m. a m && (p m || q m)) n + count (λ m. a m && (p m && q m)) n
+    ≡ count (λ m. a m && p m) n + count (λ m. a m && q m) n
 unfolding count
 count-both zero a p q = refl
 count-both (suc n) a p q = omega (arith, count-both n a p q, one-both (a n) (p n) (q n))
@@ -206,7 +208,8 @@ count-both (suc n) a p q = omega (arith, count-both n a p q, one-both (a n) (p n
 pub count-or :
     (n : ℕ) (a p q : ℕ → Bool) → ((m : ℕ) → (p m && q m) ≡ false)
     → count (λ m. a m && (p m || q m)) n ≡ count (λ m. a m && p m) n + count (λ m. a m && q m) n
-count-or n a p q h = omega (arith, count-both n a p q, count-zero n (λ m. a m && (p m && q m)) (λ m _. and-no (a m) (h m)))
+count-or n a p q h =
+    omega (arith, count-both n a p q, count-zero n (λ m. a m && (p m && q m)) (λ m _. and-no (a m) (h m)))
 
 -- a test that implies another counts no more, and as many only where they agree
 one-mono : (a b : Bool) → (a ≡ true → b ≡ true) → one a ≤ one b

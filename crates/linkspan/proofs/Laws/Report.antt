@@ -41,5 +41,8 @@ pub told-number : {p : Plan} {t : List ℕ} {answer : Answer} {n : Numbers} → 
 told-number m e = ap (λ (x : Numbers). x .answer) (e ∙ m .meets 0 .numbers)
 
 -- and its value
-pub told-tells : {p : Plan} {t : List ℕ} {answer : Answer} {n : Numbers} → Told p t answer → n ≡ numbersOf answer → Tells p (n .value) (n .answer)
-told-tells m e = record { answered = told-number m e; valued = ap (λ (x : Numbers). x .value) (e ∙ m .meets 0 .numbers) }
+pub told-tells :
+    {p : Plan} {t : List ℕ} {answer : Answer} {n : Numbers} → Told p t answer → n ≡ numbersOf answer
+    → Tells p (n .value) (n .answer)
+told-tells m e =
+    record { answered = told-number m e; valued = ap (λ (x : Numbers). x .value) (e ∙ m .meets 0 .numbers) }

@@ -16,11 +16,15 @@ returns c =
     let q = u .before .before in
     stored-as
     (ap (map (entryStore _ _))
-    (commit-changes _ (q .before .before .pre) (q .commits-in .ensures) (u .before .if1 .taken) (u .current-of .ensures) (n .change .ensures)))
+    (commit-changes _ (q .before .before .pre) (q .commits-in .ensures) (u .before .if1 .taken) (u .current-of .ensures)
+    (n .change .ensures)))
     (s .store-state .ensures)
 
 returns-2 : tie.Need-returns-2
-returns-2 c = stored-as (ap (map (entryStore _ _)) (commit-stays _ (c .before .before .before .pre) (c .before .commits-in .ensures) (c .if1 .left))) (stored-none _ _ _)
+returns-2 c =
+    let q = c .before in
+    let p = q .before .before .pre in
+    stored-as (ap (map (entryStore _ _)) (commit-stays _ p (q .commits-in .ensures) (c .if1 .left))) (stored-none _ _ _)
 
 pub commit-entry-spec : {M : Type 1} → statement M
 commit-entry-spec =

@@ -11,19 +11,23 @@ admit-commit-requires c κs =
     sound-passed _ (k .before .before .survey-table .ensures) (k .surveyed2 .given .1) .1
 
 returns : tie.Need-returns
-returns c = ready-failed _ (refused-failed _ (c .before .before .before .survey-table .ensures) (c .before .surveyed .given .1))
+returns c =
+    let k = c .before in
+    ready-failed _ (refused-failed _ (k .before .before .survey-table .ensures) (k .surveyed .given .1))
 
 returns-2 : tie.Need-returns-2
 returns-2 c =
     let a = c .before .before .before in
     let k = a .before .before in
-    ready-turned _ (sound-passed _ (k .before .before .survey-table .ensures) (k .surveyed2 .given .1) .0) (a .admit-commit .ensures) (c .before .admission .given .1)
+    ready-turned _ (sound-passed _ (k .before .before .survey-table .ensures) (k .surveyed2 .given .1) .0)
+    (a .admit-commit .ensures) (c .before .admission .given .1)
 
 returns-3 : tie.Need-returns-3
 returns-3 c =
     let a = c .before .before in
     let k = a .before .before in
-    ready-admitted _ (sound-passed _ (k .before .before .survey-table .ensures) (k .surveyed2 .given .1) .0) (a .admit-commit .ensures) (c .enum-told .given .1)
+    ready-admitted _ (sound-passed _ (k .before .before .survey-table .ensures) (k .surveyed2 .given .1) .0)
+    (a .admit-commit .ensures) (c .enum-told .given .1)
 
 pub ready-spec : {M : Type 1} → statement M
 ready-spec =

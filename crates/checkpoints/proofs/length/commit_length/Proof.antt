@@ -10,7 +10,7 @@ use Rattle.checkpoints.proofs.length.commit_length.Tie as tie
 stores-length-requires : tie.Need-stores-length-requires
 stores-length-requires c κs =
     let k = c .before in
-    passed-agreed _ _ (ready-passed _ (k .before .before .ready .ensures) (k .checked2 .given .1) .0) .long
+    passed-agreed _ _ (ready-passed _ (k .before .before .ready .ensures) (k .checked2 .given .1) .passed) .long
 
 returns : tie.Need-returns
 returns c = told-refused _ (length-refused _ (c .before .before .before .ready .ensures) (c .before .checked .given .1))

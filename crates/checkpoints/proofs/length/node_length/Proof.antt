@@ -4,6 +4,11 @@ use borrow.Author.Needs.{needs}
 use Rattle.checkpoints.proofs.length.node_length.Statement.{statement}
 use Rattle.checkpoints.proofs.length.node_length.Tie as tie
 
+returns-2 : tie.Need-returns-2
+returns-2 c =
+    let m = c .before .before in
+    (length-live _ _ _ (m .mark-at .ensures) (c .before .if1 .left) (c .row-length .ensures), search needs)
+
 pub node-length-spec : {M : Type 1} → statement M
 node-length-spec =
     tie.close
@@ -13,4 +18,4 @@ node-length-spec =
     (λ c κs. search needs)
     (λ c. search needs)
     (λ c. search needs)
-    (λ c. (length-live _ _ _ (c .before .before .mark-at .ensures) (c .before .if1 .left) (c .row-length .ensures), search needs)))
+    returns-2)

@@ -11,10 +11,16 @@ use Rattle.checkpoints.proofs.length.stores_length.Statement.{statement
 use Rattle.checkpoints.proofs.length.stores_length.Tie as tie
 
 abbrev Inv-loop : tie.InvT-loop
-Inv-loop table g nodes found₀ node₀ found node = (node ≤ g .nodes) × ((found ≡ sum (nodeLength g (view g table)) node) × (found ≤ node * 65537))
+Inv-loop table g nodes found₀ node₀ found node =
+    (node ≤ g .nodes) × ((found ≡ sum (nodeLength g (view g table)) node) × (found ≤ node * 65537))
 
 abbrev μ-loop : tie.MeasureT-loop
 μ-loop table g nodes found₀ node₀ found node = g .nodes - node
+
+loop-again : tie.Need-loop-again Inv-loop μ-loop
+loop-again c =
+    let l = c .before .before in
+    (search needs, (sum-next _ _ (l .loop .inv .1 .0) (c .node-length .ensures .0), search needs))
 
 pub stores-length-spec : {M : Type 1} → statement M
 stores-length-spec =
@@ -27,5 +33,5 @@ stores-length-spec =
     (λ c. search needs)
     (λ c. search needs)
     (λ c. search needs)
-    (λ c. (search needs, (sum-next _ _ (c .before .before .loop .inv .1 .0) (c .node-length .ensures .0), search needs)))
+    loop-again
     (λ c. length-all _ _ (c .before .loop .inv .1 .0) (c .before .loop .inv .0) (c .loop-test .left)))

@@ -5,4 +5,5 @@ use Rattle.linkspan.proofs.points.linkspan_commit_length.Statement.{sta
 use Rattle.linkspan.proofs.points.linkspan_commit_length.Tie as tie
 
 pub linkspan-commit-length-spec : {M : Type 1} → statement M
-linkspan-commit-length-spec = tie.close (tie.spec (λ c κs. search needs) (λ c κs. search needs) (λ c. search told-tells))
+linkspan-commit-length-spec =
+    tie.close (tie.spec (λ c κs. search needs) (λ c κs. search needs) (λ c. search told-tells))
