@@ -95,19 +95,19 @@ module _ (g : Geometry) (v : View) where
 
 -- ---- one item
 
+-- the Precommits and the Inv-CKs that live nodes have
+abbrev four : View → ℕ → ℕ → ℕ
+four v N b =
+    (count (has v b precommit1) N + count (has v b precommit2) N)
+    + (count (hasKept v b invCK1) N + count (hasKept v b invCK2) N)
+
+kept-two : (k : ℕ) → k < 3 → not (eqb k invalid) ≡ (eqb k invCK1 || eqb k invCK2)
+kept-two zero h = refl
+kept-two (suc zero) h = refl
+kept-two (suc (suc zero)) h = refl
+kept-two (suc (suc (suc k))) h = absurd (omega arith)
+
 module _ (v : View) (N b : ℕ) (forms : (n : ℕ) → n < N → live v n ≡ true → stateForm (v .entry n b .state) ≡ true) where
-  -- the Precommits and the Inv-CKs that live nodes have
-  abbrev four : ℕ
-  four =
-      (count (has v b precommit1) N + count (has v b precommit2) N)
-      + (count (hasKept v b invCK1) N + count (hasKept v b invCK2) N)
-
-  kept-two : (k : ℕ) → k < 3 → not (eqb k invalid) ≡ (eqb k invCK1 || eqb k invCK2)
-  kept-two zero h = refl
-  kept-two (suc zero) h = refl
-  kept-two (suc (suc zero)) h = refl
-  kept-two (suc (suc (suc k))) h = absurd (omega arith)
-
   keeps-two : count (keptCopy v b) N ≡ count (hasKept v b invCK1) N + count (hasKept v b invCK2) N
   keeps-two =
       let k : ℕ → ℕ = λ n. kept (v .entry n b) in
@@ -117,12 +117,12 @@ module _ (v : View) (N b : ℕ) (forms : (n : ℕ) → n < N → live v n ≡ tr
       (λ n. eqb-apart (k n) invCK1 invCK2 (λ z. omega arith))
 
   -- each of the four is stored in once, and two of them that stand in one entry together
-  item-four : count (λ n. stored v n b) N + count (λ n. beside v n b) N ≡ four
+  item-four : count (λ n. stored v n b) N + count (λ n. beside v n b) N ≡ four v N b
   item-four =
       count-both N (live v) (λ n. isPrecommit (current (v .entry n b))) (λ n. not (eqb (kept (v .entry n b)) invalid))
       ∙ ap₂ _+_ (two-codes v N b precommit1 precommit2 (λ z. omega arith)) keeps-two
 
-  created-four : Created v N b → four ≡ 4
+  created-four : Created v N b → four v N b ≡ 4
   created-four k =
       omega (
         arith,
@@ -132,7 +132,7 @@ module _ (v : View) (N b : ℕ) (forms : (n : ℕ) → n < N → live v n ≡ tr
         only-counts N (hasKept v b invCK2) (k .saved .two) (k .saved .second),
       )
 
-  clean-four : Clean v N b → four ≡ 0
+  clean-four : Clean v N b → four v N b ≡ 0
   clean-four k =
       omega (
         arith,
@@ -162,7 +162,7 @@ module _ (g : Geometry) (v : View) (phase number : ℕ) (good : SoundTable g v p
       forms : (n : ℕ) → n < g .nodes → live v n ≡ true → stateForm (v .entry n b .state) ≡ true
       forms n l t = good .forms n b l h t
 
-      go : Kind phase v (g .nodes) b → four v (g .nodes) b forms ≡ 4 * one (createdIn g v b)
+      go : Kind phase v (g .nodes) b → four v (g .nodes) b ≡ 4 * one (createdIn g v b)
       go (clean k) = omega (arith, clean-four v (g .nodes) b forms k, ap one (clean-not-created v (g .nodes) b forms k))
       go (dirty k) = absurd (not-owned g v admitted b h (k .node) (k .owned))
       go (created e k) = omega (arith, created-four v (g .nodes) b forms k, ap one (created-test v (g .nodes) b k))

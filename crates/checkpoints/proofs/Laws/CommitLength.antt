@@ -29,30 +29,30 @@ use Rattle.checkpoints.proofs.Laws.CommitCount.{stored, commit-parts}
 -- ---- a live node's entries, which begin at `start`
 
 -- whether a commit stores in entry b
-abbrev pub row-test : List ℕ → ℕ → ℕ → Bool
-row-test t start b = toCommit (getD t (start + entryWords * b) 0)
+abbrev pub length-test : List ℕ → ℕ → ℕ → Bool
+length-test t start b = toCommit (getD t (start + entryWords * b) 0)
 
-pub row-turn :
+pub length-turn :
     (t : List ℕ) (start b : ℕ) {at found : ℕ} {q : Bool} → at ≡ start + entryWords * b
-    → found ≡ count (row-test t start) b → q ≡ toCommit (getD t at 0) → found + boolByte q ≡ count (row-test t start) (b + 1)
-row-turn t start b {q = q} place h k =
-    let same : one q ≡ one (row-test t start b) = ap one (k ∙ ap (λ at. toCommit (getD t at 0)) place) in
-    omega (arith, count-next (row-test t start) b, bit-counted q .is)
+    → found ≡ count (length-test t start) b → q ≡ toCommit (getD t at 0) → found + boolByte q ≡ count (length-test t start) (b + 1)
+length-turn t start b {q = q} place h k =
+    let same : one q ≡ one (length-test t start b) = ap one (k ∙ ap (λ at. toCommit (getD t at 0)) place) in
+    omega (arith, count-next (length-test t start) b, bit-counted q .is)
 
 module _ (g : Geometry) (t : List ℕ) (n : ℕ) (l : n < g .nodes) (long : wordsOf g ≤ length t) {start : ℕ}
     (e : start ≡ entryAt g n 0) where
   abbrev lies : (b : ℕ) → b < g .items → Lies g t n b (start + entryWords * b)
   lies b h = record { node = l; item = h; place = omega arith; long = long }
 
-  pub row-within : (b : ℕ) → b < g .items → start + entryWords * b + 2 < length t
-  row-within b h = lies-within (lies b h)
+  pub length-within : (b : ℕ) → b < g .items → start + entryWords * b + 2 < length t
+  length-within b h = lies-within (lies b h)
 
-  pub row-end :
-      {r b : ℕ} → r ≡ count (row-test t start) b → b ≤ g .items → g .items ≤ b
+  pub length-end :
+      {r b : ℕ} → r ≡ count (length-test t start) b → b ≤ g .items → g .items ≤ b
       → r ≡ count (λ b. toCommit (view g t .entry n b .state)) (g .items)
-  row-end {r} {b} h k m =
+  length-end {r} {b} h k m =
       let same : b ≡ g .items = omega arith in
-      h ∙ ap (count (row-test t start)) same
+      h ∙ ap (count (length-test t start)) same
       ∙ count-ext (g .items) _ _ (λ b h. ap toCommit (lies-state (lies b h)))
 
 -- ---- a node
