@@ -252,8 +252,8 @@ uint64_t linkspan_commit(uint64_t *table, size_t len,
  * stores sailings are to be held; a save that does not fit before the next sailing it puts off, or
  * abandons. From then on only a commit, an abandoning, a recovery or a formatting changes the table, and
  * the number stands until one of them is made. It holds the sailings, makes the commit and releases
- * them when that has answered 0, with *stores as it was told. Beside the stores a commit takes the time
- * of its checks, which is about that of linkspan_check.
+ * them when that has answered 0, with *stores as it was told. Beside its stores a commit takes about the
+ * time of this question, which makes the same checks and goes over the same entries.
  * 0; 1 empty; 3; 1 too short; 2; 8; 12.
  */
 uint64_t linkspan_commit_length(const uint64_t *table, size_t len, uint64_t *length);
