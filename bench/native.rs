@@ -32,6 +32,7 @@ const NO_RECOVERY_COPY: u64 = 15;
 const SHORT_SCRATCH: u64 = 16;
 const NOTHING_LEFT: u64 = 17;
 const NO_SUCH_PLACE: u64 = 18;
+const TOO_MANY_FRAMES: u64 = 20;
 
 const MAX_NODES: usize = 16;
 const LARGEST_NUMBER: u64 = (1 << 32) - 1;
@@ -490,13 +491,22 @@ pub fn stretch(table: &[u64], node: u64) -> (u64, u64, u64) {
     }
 }
 
+/// A geometry in which a node has no more frames than places.
+fn formattable(nodes: u64, items: u64, frames: u64) -> Result<Geometry, u64> {
+    let geometry = Geometry::new(nodes, items, frames).ok_or(NO_GEOMETRY)?;
+    if geometry.frames > 2 * geometry.items {
+        return Err(TOO_MANY_FRAMES);
+    }
+    Ok(geometry)
+}
+
 pub fn format(table: &mut [u64], nodes: u64, items: u64, frames: u64, limit: u64) -> Outcome {
     outcome(try_format(table, nodes, items, frames, limit))
 }
 
 /// All stores go to ascending places, each once, so the first `limit` of them are a prefix.
 fn try_format(table: &mut [u64], nodes: u64, items: u64, frames: u64, limit: u64) -> Result<Outcome, u64> {
-    let geometry = Geometry::new(nodes, items, frames).ok_or(NO_GEOMETRY)?;
+    let geometry = formattable(nodes, items, frames)?;
     let table = table.get_mut(..geometry.words()).ok_or(TOO_SHORT)?;
     let mut pen = Pen::new(table, limit);
     pen.store(0, size_word(nodes, items, frames));
@@ -530,7 +540,7 @@ pub fn format_filled(table: &mut [u64], nodes: u64, items: u64, frames: u64, lim
 }
 
 fn try_format_filled(table: &mut [u64], nodes: u64, items: u64, frames: u64, limit: u64) -> Result<Outcome, u64> {
-    let geometry = Geometry::new(nodes, items, frames).ok_or(NO_GEOMETRY)?;
+    let geometry = formattable(nodes, items, frames)?;
     if table.len() < geometry.words() {
         return Err(TOO_SHORT);
     }

@@ -14,7 +14,7 @@
  *     uint64_t value, stores;
  *     const uint64_t whole = LINKSPAN_WHOLE;
  *
- *     linkspan_format(table, 193, 3, 21, 64, whole, &value, &stores);  // every value is 0
+ *     linkspan_format(table, 193, 3, 21, 42, whole, &value, &stores);  // every value is 0
  *     linkspan_write(table, 193, 0, 5, 180, whole, &value, &stores);   // node 0: item 5 is 180
  *     linkspan_read(table, 193, 2, 5, whole, &value, &stores);         // node 2: value is 180
  *
@@ -98,6 +98,9 @@
  * Geometry: N nodes (3 to 16), M items (1 to 256), F frames per node (1 to 512), allowed if also
  * (N - 2) * F >= 2 * M - 1. Nodes and items are counted from 0. A table has
  * 1 + N + 3 * N * M words; a longer slice is fine, the words past these are never touched.
+ * F = 2 * M is allowed for every N and M and gives every place of a node a frame of its own: it is the
+ * most that linkspan_format takes. A table that an earlier library formatted with more goes on working;
+ * its frames beyond 2 * M stay unused.
  *
  * Each node has an entry for each item, with two places: a current place and a kept place. A copy in
  * a place takes up one of the node's F frames. Current copies have the item's present value; one
@@ -154,7 +157,9 @@ enum {
                                          that differ */
     LINKSPAN_SHORT_SCRATCH = 16,      /* the scratch is shorter than M + N words */
     LINKSPAN_NOTHING_LEFT = 17,       /* create: every dirty item has been created; not a refusal */
-    LINKSPAN_NO_SUCH_CHOICE = 18      /* evict: a place, recover: a `none`, other than 0 and 1 */
+    LINKSPAN_NO_SUCH_CHOICE = 18,     /* evict: a place, recover: a `none`, other than 0 and 1 */
+    LINKSPAN_TOO_MANY_FRAMES = 20     /* format: F is above 2 * M, the places of a node: the frames
+                                         beyond could never be used */
 };
 
 /*
@@ -182,7 +187,7 @@ uint64_t linkspan_stretch(const uint64_t *table, size_t len, uint64_t node,
 /*
  * Makes a new table in the slice, whatever it held: all nodes live, every value and saved value 0,
  * no checkpoint open. Words past the table stay as they are.
- * 0; 3 the geometry is not allowed; 1 the slice is too short for it.
+ * 0; 3 the geometry is not allowed; 20 more frames than 2 * items; 1 the slice is too short for it.
  */
 uint64_t linkspan_format(uint64_t *table, size_t len, uint64_t nodes, uint64_t items, uint64_t frames,
                          uint64_t limit, uint64_t *value, uint64_t *stores);

@@ -104,6 +104,11 @@ static struct geometry geometry_of(struct slice table)
     return geometry;
 }
 
+static uint64_t first_word(struct geometry geometry)
+{
+    return geometry.nodes << 55 | geometry.items << 46 | geometry.frames << 36;
+}
+
 static struct geometry small_geometry(void)
 {
     struct geometry geometry = {3 + below(4), 1 + below(4), 0};
@@ -126,7 +131,7 @@ static struct slice noise(void)
         table.words[place] = below(2) ? word() : below(8) << below(64);
     if (table.length && below(4)) {
         struct geometry geometry = small_geometry();
-        table.words[0] = geometry.nodes << 55 | geometry.items << 46 | geometry.frames << 36;
+        table.words[0] = first_word(geometry);
     }
     return table;
 }
@@ -140,8 +145,11 @@ static struct slice reached(void)
     for (size_t place = 0; place < table.length; place++)
         table.words[place] = word();
     memset(scratch, 0xff, sizeof scratch);
-    linkspan_format(table.words, table.length, geometry.nodes, geometry.items, geometry.frames, LINKSPAN_WHOLE,
-                    &value, &stores);
+    uint64_t places = 2 * geometry.items;
+    linkspan_format(table.words, table.length, geometry.nodes, geometry.items,
+                    geometry.frames < places ? geometry.frames : places, LINKSPAN_WHOLE, &value, &stores);
+    if (geometry.frames > places) /* as an earlier library formatted it */
+        table.words[0] = first_word(geometry);
     while (calls--) {
         uint64_t node = below(geometry.nodes), item = below(geometry.items);
         uint64_t limit = below(20) ? LINKSPAN_WHOLE : below(5);
@@ -234,7 +242,7 @@ static const uint64_t possible[CALLS] = {
     CAN(0),
     TABLE_CHECKS,
     CAN(0) | CAN(1) | CAN(3) | CAN(4),
-    CAN(0) | CAN(1) | CAN(3),
+    CAN(0) | CAN(1) | CAN(3) | CAN(20),
     ADDRESSED | CAN(9),
     ADDRESSED | CAN(9),
     ADDRESSED | CAN(10) | CAN(11) | CAN(18),
@@ -246,7 +254,9 @@ static const uint64_t possible[CALLS] = {
     TABLE_CHECKS | CAN(4) | CAN(14) | CAN(15) | CAN(16) | CAN(18),
 };
 
-static uint64_t met[CALLS][19];
+enum { MOST_ANSWER = 20 };
+
+static uint64_t met[CALLS][MOST_ANSWER + 1];
 static uint64_t made, faults;
 
 static void fault(enum call call, uint64_t answer, const char *what)
@@ -375,7 +385,7 @@ static void judge_done(const struct trial *trial)
 
 static void judge(const struct trial *trial)
 {
-    if (trial->answer > 18 || !(possible[trial->call] >> trial->answer & 1)) {
+    if (trial->answer > MOST_ANSWER || !(possible[trial->call] >> trial->answer & 1)) {
         fault(trial->call, trial->answer, "the call has no such answer");
         return;
     }
@@ -432,7 +442,7 @@ static void print_met(void)
 {
     for (int call = 0; call < CALLS; call++) {
         printf("  %-8s", names[call]);
-        for (int answer = 0; answer < 19; answer++)
+        for (int answer = 0; answer <= MOST_ANSWER; answer++)
             if (met[call][answer])
                 printf(" %d: %" PRIu64, answer, met[call][answer]);
         printf("\n");

@@ -1,7 +1,8 @@
 /*
  * Holds the layout of linkspan.h to the library: for every number of nodes and items against
  * linkspan_words, linkspan_stretch and the words that linkspan_format stores; for every number of
- * frames against word 0; and every phase and code of a place against the words that calls leave.
+ * frames against word 0; for every number of items against the most frames that linkspan_format takes;
+ * and every phase and code of a place against the words that calls leave.
  */
 #include "../linkspan.h"
 
@@ -98,10 +99,22 @@ static void formatted_words(uint64_t nodes, uint64_t items)
     }
 }
 
+/* As many frames as a node has places are taken, and one more is not. */
+static void most_frames(uint64_t nodes, uint64_t items)
+{
+    uint64_t value, stores, places = 2 * items, refusal = LINKSPAN_TOO_MANY_FRAMES;
+    if (places == MOST_FRAMES)
+        refusal = LINKSPAN_NO_GEOMETRY;
+    format(nodes, items, places);
+    same("a frame too many", linkspan_format(table, MOST_WORDS, nodes, items, places + 1, WHOLE, &value, &stores),
+         refusal);
+}
+
 static void every_geometry(void)
 {
     for (uint64_t nodes = 3; nodes <= MOST_NODES; nodes++)
         for (uint64_t items = 1; items <= MOST_ITEMS; items++) {
+            most_frames(nodes, items);
             format(nodes, items, fewest_frames(nodes, items));
             geometry_in_word_0(nodes, items, fewest_frames(nodes, items));
             rows(nodes, items);
@@ -109,8 +122,9 @@ static void every_geometry(void)
             formatted_words(nodes, items);
         }
     for (uint64_t frames = 1; frames <= MOST_FRAMES; frames++) {
-        format(3, 1, frames);
-        geometry_in_word_0(3, 1, frames);
+        uint64_t items = (frames + 1) / 2; /* the fewest whose places are so many */
+        format(3, items, frames);
+        geometry_in_word_0(3, items, frames);
     }
 }
 

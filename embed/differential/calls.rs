@@ -26,7 +26,7 @@ pub const ANSWERS: [(&str, &[u64]); 13] = [
     ("words", &[0]),
     ("check", &[0, 1, 2, 3]),
     ("stretch", &[0, 1, 3, 4]),
-    ("format", &[0, 1, 3]),
+    ("format", &[0, 1, 3, 20]),
     ("read", &[0, 1, 2, 3, 4, 5, 6, 7, 9]),
     ("write", &[0, 1, 2, 3, 4, 5, 6, 7, 9]),
     ("evict", &[0, 1, 2, 3, 4, 5, 6, 7, 10, 11, 18]),
@@ -37,6 +37,11 @@ pub const ANSWERS: [(&str, &[u64]); 13] = [
     ("recover", &[0, 1, 2, 3, 4, 14, 15, 16, 18]),
     ("length", &[0, 1, 2, 3, 8, 12]),
 ];
+
+/// How often each call gave each answer, by the call's place in `ANSWERS`.
+pub type Met = [[u64; MOST_ANSWER + 1]; ANSWERS.len()];
+
+pub const MOST_ANSWER: usize = 20;
 
 impl Call {
     /// The call's place in `ANSWERS`.

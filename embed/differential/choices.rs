@@ -67,9 +67,10 @@ fn eviction(random: &mut Random, table: &[u64]) -> Call {
 }
 
 fn formatting(random: &mut Random) -> Call {
-    let geometry = match random.percent(50) {
-        true => tables::allowed_geometry(random),
-        false => tables::any_geometry(random),
+    let geometry = match random.below(4) {
+        0 => tables::allowed_geometry(random).usable(),
+        1 => tables::allowed_geometry(random),
+        _ => tables::any_geometry(random),
     };
     Call::Format { nodes: geometry.nodes, items: geometry.items, frames: geometry.frames }
 }

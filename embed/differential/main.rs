@@ -20,7 +20,7 @@ mod twins;
 #[allow(dead_code)]
 mod stand_in;
 
-use calls::{Call, ANSWERS};
+use calls::{Call, Met, ANSWERS, MOST_ANSWER};
 use runs::{Runs, Subject};
 use tables::Geometry;
 use twins::{Compared, Twins};
@@ -39,7 +39,7 @@ struct Tally {
     forward: u64,
     /// Commits carried out of which was told how long they would be.
     foretold: u64,
-    met: [[u64; 19]; ANSWERS.len()],
+    met: Met,
 }
 
 /// The runs of one seed, on the library and on the reference.
@@ -121,7 +121,7 @@ fn run_seed(seed: u64, calls: u64, tally: &mut Tally) {
 
 fn print_met(tally: &Tally) {
     for (index, (name, answers)) in ANSWERS.iter().enumerate() {
-        let met: Vec<String> = (0..19)
+        let met: Vec<String> = (0..=MOST_ANSWER)
             .filter(|answer| tally.met[index][*answer] > 0)
             .map(|answer| format!("{answer}: {}", tally.met[index][answer]))
             .collect();
@@ -157,7 +157,7 @@ fn arguments() -> (u64, Vec<u64>) {
 
 fn main() {
     let (calls, seeds) = arguments();
-    let mut tally = Tally { calls: 0, differences: 0, at_limit: 0, forward: 0, foretold: 0, met: [[0; 19]; ANSWERS.len()] };
+    let mut tally = Tally { calls: 0, differences: 0, at_limit: 0, forward: 0, foretold: 0, met: Met::default() };
     let start = std::time::Instant::now();
     for &seed in &seeds {
         run_seed(seed, calls.div_ceil(seeds.len() as u64), &mut tally);

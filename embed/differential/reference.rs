@@ -32,6 +32,7 @@ const NO_RECOVERY_COPY: u64 = 15;
 const SHORT_SCRATCH: u64 = 16;
 const NOTHING_LEFT: u64 = 17;
 const NO_SUCH_PLACE: u64 = 18;
+const TOO_MANY_FRAMES: u64 = 20;
 
 const LARGEST_NUMBER: u64 = (1 << 32) - 1;
 
@@ -480,9 +481,24 @@ pub fn stretch(table: &[u64], node: u64) -> (u64, u64, u64) {
 
 pub fn format_plan(length: usize, nodes: u64, items: u64, frames: u64) -> Plan {
     let geometry = Geometry::new(nodes, items, frames).ok_or(NO_GEOMETRY)?;
+    if geometry.frames > 2 * geometry.items {
+        return Err(TOO_MANY_FRAMES);
+    }
     if length < geometry.words() {
         return Err(TOO_SHORT);
     }
+    Ok((0, format_stores(geometry)))
+}
+
+/// A table as Format left it before more frames than places were refused: its words, for any allowed geometry.
+pub fn lay_out(table: &mut [u64], nodes: u64, items: u64, frames: u64) {
+    let geometry = Geometry::new(nodes, items, frames).expect("an allowed geometry");
+    for (place, word) in format_stores(geometry) {
+        table[place] = word;
+    }
+}
+
+fn format_stores(geometry: Geometry) -> Vec<(usize, u64)> {
     let mut words = vec![geometry.word()];
     words.resize(1 + geometry.nodes, mark_word(Mark { phase: Phase::Running, number: 0 }));
     for node in 0..geometry.nodes {
@@ -490,7 +506,7 @@ pub fn format_plan(length: usize, nodes: u64, items: u64, frames: u64) -> Plan {
             words.extend([state_word(formatted(geometry.nodes, node, item), None), 0, 0]);
         }
     }
-    Ok((0, words.into_iter().enumerate().collect()))
+    words.into_iter().enumerate().collect()
 }
 
 fn formatted(nodes: usize, node: usize, item: usize) -> Current {

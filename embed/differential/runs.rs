@@ -3,6 +3,7 @@
 use crate::calls::Call;
 use crate::choices::{self, WHOLE};
 use crate::random::Random;
+use crate::reference;
 use crate::tables::{self, Geometry};
 
 /// Nodes and items: the most of both, and of each with few of the other.
@@ -67,7 +68,7 @@ impl Runs {
         })
     }
 
-    /// A formatted table, perhaps with words to spare.
+    /// A formatted table, perhaps with words to spare, and perhaps of a layout that is refused by now.
     fn formatted(&mut self, subject: &mut impl Subject) -> bool {
         let geometry = tables::allowed_geometry(&mut self.random);
         self.formatted_as(subject, geometry)
@@ -78,7 +79,15 @@ impl Runs {
         let words = geometry.words() + self.random.one_of(&[0, 0, 1, 5]) as usize;
         let before: Vec<u64> = (0..words).map(|_| self.random.word()).collect();
         subject.set(&before);
-        subject.call(Call::Format { nodes, items, frames }, WHOLE)
+        if !subject.call(Call::Format { nodes, items, frames }, WHOLE) {
+            return false;
+        }
+        if geometry.has_unusable_frames() {
+            let mut table = before;
+            reference::lay_out(&mut table, nodes, items, frames);
+            subject.set(&table);
+        }
+        true
     }
 
     /// Whole calls, one after the other.

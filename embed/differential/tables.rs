@@ -20,6 +20,16 @@ impl Geometry {
         (1 + self.nodes + 3 * (node * self.items + item)) as usize
     }
 
+    /// More than a node has places: a format is refused with 20, and a table that has them goes on working.
+    pub fn has_unusable_frames(self) -> bool {
+        self.frames > 2 * self.items
+    }
+
+    /// With no more frames than a node has places, so that a format is carried out.
+    pub fn usable(self) -> Geometry {
+        Geometry { frames: self.frames.min(2 * self.items), ..self }
+    }
+
     /// The numbers in a table's first word, allowed or not.
     pub fn of_table(table: &[u64]) -> Geometry {
         let first = table.first().copied().unwrap_or(0);
@@ -44,7 +54,8 @@ pub fn fewest_frames(nodes: u64, items: u64) -> u64 {
     (2 * items - 1).div_ceil(nodes - 2)
 }
 
-/// Mostly small; frames often scarce, so that copies need homes and homes drop copies.
+/// Mostly small; frames often scarce, so that copies need homes and homes drop copies, and now and then more than a
+/// node has places.
 pub fn allowed_geometry(random: &mut Random) -> Geometry {
     let (nodes, items) = match random.below(200) {
         0..=119 => (random.between(3, 6), random.between(1, 4)),
@@ -56,7 +67,7 @@ pub fn allowed_geometry(random: &mut Random) -> Geometry {
     let frames = match random.below(8) {
         0..=2 => fewest,
         3..=4 => fewest + 1,
-        5 => 2 * items,
+        5 => 2 * items + random.below(2),
         6 => random.between(fewest, 512),
         _ => fewest + random.below(items + 1),
     };

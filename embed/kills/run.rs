@@ -8,6 +8,7 @@ use crate::library;
 use crate::limits::{self, Store};
 use crate::memory::Memory;
 use crate::random::Random;
+use crate::reference;
 use crate::script::{Script, Step, Wish, FIRST_WISH, LAST_WISH};
 use crate::tables::{self, Geometry};
 use crate::tally::Tally;
@@ -74,17 +75,23 @@ fn geometry(random: &mut Random) -> Geometry {
 }
 
 impl Run<'_> {
-    /// A table that the library formats in shared memory, perhaps with words to spare.
+    /// A table that the library formats in shared memory, perhaps with words to spare; a layout with more frames than
+    /// places, which it refuses, is laid out there.
     pub fn begin<'a>(mut random: Random, place: &'a mut Place, tally: &'a mut Tally) -> Result<Run<'a>, String> {
-        let Geometry { nodes, items, frames } = geometry(&mut random);
-        let words = Geometry { nodes, items, frames }.words() + random.one_of(&[0, 0, 1, 5]) as usize;
+        let geometry = geometry(&mut random);
+        let Geometry { nodes, items, frames } = geometry;
+        let words = geometry.words() + random.one_of(&[0, 0, 1, 5]) as usize;
         let before: Vec<u64> = (0..words).map(|_| random.word()).collect();
         let script = Script::of_one(&before, Call::Format { nodes, items, frames });
-        let table = limits::table_at(&before, &script.last().list, script.last().list.len());
+        let mut table = limits::table_at(&before, &script.last().list, script.last().list.len());
         place.lent.place(random.index(8), &before);
         let said = library::format(place.lent.slice_mut(), nodes, items, frames, WHOLE);
         if said != script.last().said || place.lent.slice() != table || !place.lent.guards_stand() {
             return Err(format!("formatting {nodes} nodes, {items} items, {frames} frames said {said:?}"));
+        }
+        if geometry.has_unusable_frames() {
+            reference::lay_out(&mut table, nodes, items, frames);
+            reference::lay_out(place.lent.slice_mut(), nodes, items, frames);
         }
         Ok(Run { random, table, memory: Memory::formatted(items), place, tally })
     }

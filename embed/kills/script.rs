@@ -61,9 +61,9 @@ impl Script {
         Script { steps: Vec::new(), again: false, table: table.to_vec() }
     }
 
-    /// Begins with a formatting in the table's own layout.
+    /// Begins with a formatting in the table's own layout, with no more frames than places.
     pub fn formatting(table: &[u64]) -> Script {
-        let Geometry { nodes, items, frames } = Geometry::of_table(table);
+        let Geometry { nodes, items, frames } = Geometry::of_table(table).usable();
         let mut script = Script::of_one(table, Call::Format { nodes, items, frames });
         script.again = true;
         script
@@ -182,7 +182,7 @@ impl Script {
         call
     }
 
-    /// Any layout that the slice has room for.
+    /// Any layout that the slice has room for, with no more frames than places.
     fn any_formatting(&self, random: &mut Random) -> Call {
         let mut geometry = Geometry::of_table(&self.table);
         for _ in 0..4 {
@@ -191,7 +191,7 @@ impl Script {
                 geometry = other;
             }
         }
-        let Geometry { nodes, items, frames } = geometry;
+        let Geometry { nodes, items, frames } = geometry.usable();
         Call::Format { nodes, items, frames }
     }
 

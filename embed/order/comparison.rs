@@ -3,7 +3,7 @@
 use std::collections::BTreeMap;
 use std::time::Instant;
 
-use crate::calls::{listed, on_reference, Call, Said, ANSWERS};
+use crate::calls::{listed, on_reference, Call, Met, Said};
 use crate::choices::WHOLE;
 use crate::on_library::{on_library, SCRATCH_WORD};
 use crate::runs::Subject;
@@ -30,7 +30,7 @@ pub struct Tally {
     pub sizes: [u64; SIZES.len()],
     /// How often each instruction stored to a table, by its address.
     pub instructions: BTreeMap<u64, u64>,
-    pub met: [[u64; 19]; ANSWERS.len()],
+    pub met: Met,
 }
 
 /// The runs of one seed, on a watched table.

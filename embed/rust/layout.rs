@@ -1,5 +1,5 @@
 //! Holds the layout of the wrapper to the library and to the second engine's own tables, for every
-//! number of nodes and items: places, owners, and the fields of every kind of word.
+//! number of nodes and items: places, owners, the fields of every kind of word, and the most frames.
 
 #[allow(dead_code)]
 mod linkspan;
@@ -11,7 +11,7 @@ mod random;
 mod tables;
 
 use linkspan::layout::{self, Current, Kept, Phase};
-use linkspan::Table;
+use linkspan::{Answer, Refusal, Table};
 use tables::{Geometry, LARGEST_NUMBER};
 
 const MOST_WORDS: usize = 1 + 16 + 3 * 16 * 256;
@@ -131,6 +131,9 @@ fn main() {
         for items in 1..=256 {
             let fewest = tables::fewest_frames(nodes, items);
             let mut table = Table::new(&mut words);
+            let refusal = if 2 * items < 512 { Refusal::TooManyFrames } else { Refusal::NoGeometry };
+            assert_eq!(table.format(nodes, items, 2 * items + 1), Answer::Refused(refusal));
+            assert!(table.format(nodes, items, 2 * items).is_done());
             assert!(table.format(nodes, items, fewest).is_done());
             let geometry = Geometry { nodes, items, frames: fewest };
             compared.places(geometry, &table);

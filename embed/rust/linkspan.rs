@@ -101,10 +101,12 @@ pub enum Refusal {
     NoRecoveryCopy = 15,
     /// The scratch is shorter than items + nodes words.
     ShortScratch = 16,
+    /// A format with more frames than a node has places, which are two for each item.
+    TooManyFrames = 20,
 }
 
 impl Refusal {
-    const ALL: [Refusal; 16] = [
+    const ALL: [Refusal; 17] = [
         Refusal::TooShort,
         Refusal::NotSound,
         Refusal::NoGeometry,
@@ -121,6 +123,7 @@ impl Refusal {
         Refusal::TooFewSurvivors,
         Refusal::NoRecoveryCopy,
         Refusal::ShortScratch,
+        Refusal::TooManyFrames,
     ];
 
     /// The refusal's number, as the C functions return it.
@@ -373,7 +376,7 @@ impl<'a> Table<'a> {
         (self.words.as_mut_ptr(), self.words.len(), self.limit)
     }
 
-    /// Makes a new table in the words, whatever they held.
+    /// Makes a new table in the words, whatever they held. A node has two places for each item, and no more frames.
     pub fn format(&mut self, nodes: u64, items: u64, frames: u64) -> Answer {
         let (table, len, limit) = self.lent();
         answer(|value, stores| unsafe { ffi::linkspan_format(table, len, nodes, items, frames, limit, value, stores) })

@@ -4,6 +4,7 @@ mod arguments;
 mod changed;
 mod disorder;
 mod documented;
+mod frames;
 mod outcomes;
 mod recoveries;
 
@@ -18,17 +19,20 @@ use arguments::{arguments, formats, unfit_tables};
 use changed::single_changes;
 use disorder::{damaged, disorder, large};
 use documented::documented;
+use frames::{about_places, already_formatted};
 use outcomes::{checkpoints, limits, outcomes, scarce_homes};
 use recoveries::{scarce_frames, scattered, strikes};
 
 /// A part: what it has, its seed, and the function that makes it. Each part draws from its own seed.
 type Part = (&'static str, u64, fn(&mut Vectors));
 
-const PARTS: [Part; 15] = [
+const PARTS: [Part; 17] = [
     ("the cases that document 01 lists", 1, documented),
     ("every single change of a small table", 2, single_changes),
     ("tables without a geometry, or too short for it", 3, unfit_tables),
     ("formats", 4, formats),
+    ("formats with as many frames as places, fewer and more", 16, about_places),
+    ("tables with more frames than places", 17, already_formatted),
     ("nodes, items and scratch beyond the table's", 5, arguments),
     ("every outcome on tables reached and built", 6, outcomes),
     ("homes that drop a copy, and no home", 7, scarce_homes),

@@ -24,6 +24,9 @@ const STRETCH: u64 = 17;
 /// quay's answer to a record that is malformed.
 pub const MALFORMED: u64 = 18;
 
+/// A format's answer to more frames than a node has places.
+pub const TOO_MANY_FRAMES: u64 = 20;
+
 /// Answers that quay never gives, since its table is its own, its calls are whole and its scratch is long enough; and
 /// 3, which only a format can give there.
 const NOT_IN_QUAY: [u64; 4] = [2, 13, 15, 16];

@@ -3,6 +3,7 @@
 use crate::calls::{on_reference, Call, Said};
 use crate::choices::{self, WHOLE};
 use crate::random::Random;
+use crate::reference;
 use crate::tables::{self, Geometry};
 
 /// Answer, value and stores of a call. Where a stretch is, neither file says.
@@ -41,12 +42,17 @@ pub fn geometry_within(random: &mut Random, most_words: usize) -> Geometry {
     }
 }
 
-/// A formatted table, perhaps with words to spare, which hold anything.
+/// A formatted table, perhaps with words to spare, which hold anything; a layout with more frames than places, which a
+/// format refuses by now, is laid out.
 pub fn formatted(random: &mut Random, geometry: Geometry) -> Vec<u64> {
     let words = geometry.words() + random.one_of(&[0, 0, 0, 1, 5]) as usize;
     let mut table: Vec<u64> = (0..words).map(|_| random.word()).collect();
     let Geometry { nodes, items, frames } = geometry;
-    assert_eq!(run(&mut table, Call::Format { nodes, items, frames }, WHOLE).0, 0);
+    if geometry.has_unusable_frames() {
+        reference::lay_out(&mut table, nodes, items, frames);
+    } else {
+        assert_eq!(run(&mut table, Call::Format { nodes, items, frames }, WHOLE).0, 0);
+    }
     table
 }
 

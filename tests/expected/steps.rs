@@ -2,7 +2,7 @@
 
 use crate::calls::{Call, Said};
 use crate::choices;
-use crate::operations::{self, Tally};
+use crate::operations::{self, Tally, TOO_MANY_FRAMES};
 use crate::quay::{self, Quay, RECORD, TABLE_WORDS};
 use crate::random::Random;
 use crate::tables::{self, geometry_word, Geometry};
@@ -10,10 +10,11 @@ use crate::tables::{self, geometry_word, Geometry};
 /// A part: what it has, its seed, and the function that makes it. Each part draws from its own seed.
 type Part = (&'static str, u64, fn(&mut Steps));
 
-const PARTS: [Part; 9] = [
+const PARTS: [Part; 10] = [
     ("before any format is accepted", 101, unformatted),
     ("the listing of document 01", 102, listing),
     ("the other cases of document 01", 103, documented),
+    ("as many frames as places, and one more", 110, places),
     ("formats refused after one that was accepted", 104, refused_formats),
     ("every kind of malformed record", 105, every_malformed),
     ("geometries in turn", 106, geometries_in_turn),
@@ -141,8 +142,8 @@ fn one_of_each(steps: &mut Steps) {
     }
 }
 
-/// Formats that are refused: no allowed geometry, or one that needs more than 8,000 words.
-const REFUSED: [(u64, u64, u64); 18] = [
+/// Formats that are refused: no allowed geometry, more frames than places, or more than 8,000 words needed.
+const REFUSED: [(u64, u64, u64); 27] = [
     (0, 0, 0),
     (2, 1, 2),
     (17, 1, 2),
@@ -155,12 +156,21 @@ const REFUSED: [(u64, u64, u64); 18] = [
     (3, 256, 510),
     (4, 256, 255),
     (16, 18, 2),
+    (3, 1, 3),
+    (3, 1, 512),
+    (4, 2, 5),
+    (3, 255, 511),
+    (3, 255, 512),
+    (16, 166, 333),
+    (16, 167, 335),
     (16, 167, 512),
+    (15, 255, 511),
+    (16, 167, 334),
     (16, 256, 512),
-    (14, 191, 512),
+    (14, 191, 382),
     (13, 205, 400),
     (12, 222, 300),
-    (11, 243, 512),
+    (11, 243, 486),
 ];
 
 /// Any call with fields that a record has.
@@ -224,6 +234,23 @@ fn documented(steps: &mut Steps) {
     assert_eq!(steps.format(4, 256, 255).0, 3);
     assert_eq!(steps.format(16, 18, 3).0, 0);
     assert_eq!(steps.format(16, 18, 2).0, 3);
+}
+
+// As many frames as places, and one more.
+
+fn places(steps: &mut Steps) {
+    for (nodes, items) in [(3, 1), (4, 2), (16, 3), (3, 60), (16, 166), (3, 255)] {
+        assert_eq!(steps.format(nodes, items, 2 * items).0, 0);
+        steps.call(Call::Write { node: 2, item: items - 1, value: items });
+        for frames in [2 * items + 1, 512] {
+            assert_eq!(steps.format(nodes, items, frames).0, TOO_MANY_FRAMES);
+            assert_eq!(steps.call(Call::Read { node: 0, item: items - 1 }).1, items, "the old table stays");
+        }
+    }
+    assert_eq!(steps.format(3, 256, 512).0, 0);
+    assert_eq!(steps.format(3, 256, 513).0, 3);
+    assert_eq!(steps.format(16, 167, 334).0, 1);
+    assert_eq!(steps.format(16, 167, 335).0, TOO_MANY_FRAMES, "before the table is found too short");
 }
 
 // Formats refused after one that was accepted.
@@ -354,7 +381,7 @@ fn lose_each(steps: &mut Steps, nodes: u64) {
 
 fn runs(steps: &mut Steps) {
     while steps.tally.total() < RECORDS {
-        let geometry = tables::allowed_geometry(&mut steps.random);
+        let geometry = tables::allowed_geometry(&mut steps.random).usable();
         if geometry.words() <= TABLE_WORDS {
             run(steps, geometry);
         }

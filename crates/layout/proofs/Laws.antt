@@ -4,4 +4,5 @@ pub mod Rows
 pub mod FormatRow
 pub mod FirstPlaces
 pub mod FormatTheorem
+pub mod Formatted
 pub mod Stretch

@@ -1,9 +1,10 @@
 // Format: a fresh table of a geometry.
 ghost use mathlib.Core.List.{map};
+ghost use mathlib.Core.Path.{_≡_};
 ghost use Prim.Native.Nat.{_<_, _≤_};
 ghost use Rattle.table.specs.Stores.{Stored, entryStore, runs};
 ghost use Rattle.table.specs.Answers.{Meets};
-ghost use Rattle.layout.specs.Format.{firstEntry, firstMark, firstEntries, formatStores, formatOf};
+ghost use Rattle.layout.specs.Format.{firstEntry, firstMark, firstEntries, formatStores, unusableFrames, formatOf};
 use crate::rows;
 use table::answers::Answer;
 use table::answers::Refusal;
@@ -70,6 +71,13 @@ fn format_words(table: &mut [u64], left: u64, g: Geometry) -> u64
     format_nodes(table, left, g)
 }
 
+// Whether a node has more frames than places, of which each item has two.
+fn unusable_frames(g: Geometry) -> bool
+    ensures { λ r. ⌜ r ≡ unusableFrames g ⌝ }
+{
+    2 * (g.items as u64) < g.frames as u64
+}
+
 // A fresh table of these nodes, items and frames per node, in at most `limit` stores.
 pub fn format(table: &mut [u64], nodes: u64, items: u64, frames: u64, limit: u64) -> Answer
     ensures { λ r. ⌜ Meets (formatOf (now (table .entry)) nodes items frames) limit (now (table .entry)) (now (table .exit)) r ⌝ }
@@ -78,7 +86,12 @@ pub fn format(table: &mut [u64], nodes: u64, items: u64, frames: u64, limit: u64
     match made {
         Made::NotAllowed => Answer::Refused(Refusal::NoGeometry),
         Made::Allowed(g) => {
-            if table.len() < g.words() {
+            let unusable = unusable_frames(g);
+            let short = table.len() < g.words();
+            if unusable {
+                return Answer::Refused(Refusal::TooManyFrames);
+            }
+            if short {
                 return Answer::Refused(Refusal::EmptyOrShort);
             }
             let left = format_words(table, limit, g);

@@ -83,12 +83,13 @@ pub record PartReports (t : List ℕ) (n start words r : ℕ) : Type 0 where
   pub counted : words ≡ partWords (stretchOf t n)
   pub within : start + words ≤ length t
 
--- ---- the words that a table of so many nodes and items needs. Frames need no words, and more of them never harm, so the most that a node can have are asked for:
--- every geometry of these nodes and items has these words (`words-of-any`), and where the number is 0 there is none (`no-words`).
+-- ---- the words that a table of so many nodes and items needs. Frames need no words; as many are asked for as a node
+-- has places, F = 2 × M. Every geometry of these nodes and items has these words (`words-of-any`), and where the number
+-- is 0 there is none (`no-words`).
 
 unfoldable pub madeWords : Made → ℕ
 madeWords (Allowed g) = wordsOf g
 madeWords NotAllowed = 0
 
 unfoldable pub wordsFor : ℕ → ℕ → ℕ
-wordsFor n m = madeWords (geometryOf n m 512)
+wordsFor n m = madeWords (geometryOf n m (2 * m))

@@ -16,7 +16,10 @@ use table::geometry::Made;
 pub extern "C" fn linkspan_words(nodes: u64, items: u64) -> u64
     ensures { λ r. ⌜ r ≡ wordsFor nodes items ⌝ }
 {
-    let made = Geometry::new(nodes, items, Geometry::FRAMES_MAX);
+    if Geometry::ITEMS_MAX < items {
+        return 0;
+    }
+    let made = Geometry::new(nodes, items, 2 * items);
     match made {
         Made::NotAllowed => 0,
         Made::Allowed(g) => g.words() as u64,

@@ -1,6 +1,7 @@
 -- DEMAND 2, as one type. Its words stand above the parts that render them.
 use Prim.Native.Nat.{ℕ, _<_}
 use mathlib.Core.Path.{_≡_}
+use mathlib.Core.Logic.{_≢_}
 use mathlib.Core.Bool.{Bool, true, false, not, _&&_}
 use mathlib.Core.List.{List}
 use mathlib.Core.Option.{Option, none, some}
@@ -66,10 +67,10 @@ pub record Demand2 : Type 0 where
       → readOf t n b ≡ carry g x ss → x ≡ valueOf memory b
   -- and no call of a history is refused for the table: it passes checks 1, 3, 1 and 2
   pub never-refused : {t : List ℕ} {memory : Memory} {commits : ℕ} → History t memory commits → faultOf t ≡ Passed (geometryIn t)
-  -- so none but Format is refused with 1, 2 or 3
+  -- so none but Format is refused with 1, 2 or 3; nor with 20: "Tables already formatted go on working." (K7)
   pub own-refusals :
       {t : List ℕ} {memory : Memory} {commits : ℕ} → History t memory commits → (s : Step) → isFormat (s .call) ≡ false → (r : Refusal)
-      → planAt t s ≡ refuse r → 3 < refusalNumber r
+      → planAt t s ≡ refuse r → (3 < refusalNumber r) × (refusalNumber r ≢ 20)
   -- and its live marks carry the number of commits finished since the last formatting: the next point's is "1 plus" these
   pub point-number :
       {t : List ℕ} {memory : Memory} {commits : ℕ} → History t memory commits → (n : ℕ) → live (view (geometryIn t) t) n ≡ true

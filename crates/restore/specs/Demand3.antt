@@ -6,9 +6,10 @@ use mathlib.Core.List.{List, [], _∷_, _++_}
 use lib.ListN.{length}
 use Rattle.table.specs.declared.geometry.Geometry.{Geometry}
 use Rattle.table.specs.View.{view, live}
+use Rattle.layout.specs.Formatted.{Formatted}
 use Rattle.restore.specs.Call.{accepted}
 use Rattle.restore.specs.Memory.{Memory, zeros, savedIn}
-use Rattle.restore.specs.Run.{Step, geometryIn, finished, run, toPoint, commitsFrom, memoryFrom, Formatted}
+use Rattle.restore.specs.Run.{Step, geometryIn, finished, run, toPoint, commitsFrom, memoryFrom}
 use Rattle.restore.specs.Strike.{Strike, fourteen, lastRecovery, recovered, surviving, commitCounts, memoryBy}
 use Rattle.restore.specs.OneItem.{OnTwoNodes, HasValue}
 
@@ -28,7 +29,7 @@ module _ (t₀ : List ℕ) (formatted : Formatted t₀) (calls : List Step) (str
 
   -- the plain memory: "fed the list, then a cut commit exactly when 3 finishes it, then the recovery"
   abbrev pub memory : Memory
-  memory = memoryBy strike commits (memoryFrom (zeros (formatted .items)) t₀ calls)
+  memory = memoryBy strike commits (memoryFrom (zeros (formatted .geometry .items)) t₀ calls)
 
   -- "The undisturbed one stops at its last finished commit or formatting."
   -- "A cut commit is finished in the undisturbed run exactly when a surviving node of the cut table carries the new point's number, else left out."

@@ -6,17 +6,18 @@ use mathlib.Core.List.{List}
 use mathlib.Core.Option.{Option, none, some}
 use lib.Dec.{eqb}
 use Rattle.table.specs.View.{view}
+use Rattle.layout.specs.Formatted.{Formatted}
 use Rattle.restore.specs.declared.call.Call.{Call}
 use Rattle.restore.specs.declared.call.Call.the-variants.{Format, Check, Stretch, Read, Write, Evict, Open, Create, Commit, Abandon, Recover}
 use Rattle.restore.specs.Call.{accepted}
 use Rattle.restore.specs.Memory.{Memory, zeros, savedIn}
-use Rattle.restore.specs.Run.{Step, geometryIn, tableBy, finished, memoryWith, commitsAfter, Formatted}
+use Rattle.restore.specs.Run.{Step, geometryIn, tableBy, finished, memoryWith, commitsAfter}
 use Rattle.restore.specs.Strike.{Strike, fourteen, lastRecovery, recovered, memoryBy, commitsBy}
 use Rattle.restore.specs.OneItem.{OnTwoNodes}
 
 -- it leads to a table, with the plain memory and the commits finished since the last formatting
 pub data History : List ℕ → Memory → ℕ → Type 0 where
-  begun : (t : List ℕ) (f : Formatted t) → History t (zeros (f .items)) 0
+  begun : (t : List ℕ) (f : Formatted t) → History t (zeros (f .geometry .items)) 0
   wholeCall :
       {t : List ℕ} {memory : Memory} {commits : ℕ} → History t memory commits → (s : Step)
       → History (tableBy t s) (memoryWith t s memory) (commitsAfter t s commits)

@@ -15,6 +15,7 @@ use Rattle.entries.specs.declared.check.Checked.the-variants.{Passed, Failed}
 use Rattle.entries.specs.Check.{sizesOf}
 use Rattle.survivors.specs.declared.lost.Lost.{Lost}
 use Rattle.survivors.specs.declared.lost.Lost.the-variants.{Nobody, Node}
+use Rattle.layout.specs.Formatted.{Formatted}
 use Rattle.restore.specs.declared.call.Call.{Call}
 use Rattle.restore.specs.declared.call.Call.the-variants.{Check}
 use Rattle.restore.specs.declared.operations.Operation.{Operation}
@@ -22,7 +23,7 @@ use Rattle.restore.specs.declared.operations.Operation.the-variants.{Kno
 use Rattle.restore.specs.Operations.{callBy}
 use Rattle.recovery.specs.Recover.{scratchWords, recoverOf, scratchAfter}
 use Rattle.restore.specs.Call.{scratchBy}
-use Rattle.restore.specs.Run.{Step, geometryIn, wholeTable, planAt, tableBy, run, Formatted, storeCount}
+use Rattle.restore.specs.Run.{Step, geometryIn, wholeTable, planAt, tableBy, run, storeCount}
 use Rattle.restore.specs.Strike.{canBeCut, liveOrNone, Attempt, brokenOff, Hit, Strike}
 use Rattle.table.specs.declared.answers.Answer.{Answer}
 use Rattle.table.specs.declared.answers.Answer.the-variants.{Done}

@@ -1,16 +1,14 @@
 -- Whole calls, one after the other, on one table.
 use Prim.Native.Nat.{ℕ, suc}
-use mathlib.Core.Path.{_≡_}
 use mathlib.Core.Bool.{Bool, true, false, not, cond, _&&_, _||_}
 use mathlib.Core.List.{List, [], _∷_}
 use lib.ListN.{length, getD}
 use Rattle.table.specs.declared.geometry.Geometry.{Geometry}
 use Rattle.table.specs.Words.{nodesOf, itemsOf, framesOf}
 use Rattle.table.specs.Answers.{Plan, refuse, nothingLeft, carry, tableOf}
-use Rattle.layout.specs.Format.{formatOf}
 use Rattle.restore.specs.declared.call.Call.{Call}
 use Rattle.restore.specs.declared.call.Call.the-variants.{Format, Check, Stretch, Read, Write, Evict, Open, Create, Commit, Abandon, Recover}
-use Rattle.restore.specs.Call.{planOf, refused, accepted}
+use Rattle.restore.specs.Call.{planOf, refused}
 use Rattle.restore.specs.Memory.{Memory, fed}
 
 -- the geometry that word 0 of a table gives
@@ -116,11 +114,3 @@ commitsFrom k t (s ∷ ss) = commitsFrom (commitsAfter t s k) (tableBy t s) ss
 unfoldable pub memoryFrom : Memory → List ℕ → List Step → Memory
 memoryFrom memory t [] = memory
 memoryFrom memory t (s ∷ ss) = memoryFrom (memoryWith t s memory) (tableBy t s) ss
-
--- "A table is formatted if it holds the words of Format's list for an allowed geometry": Format is carried out, and all its stores change nothing
-pub record Formatted (t : List ℕ) : Type 0 where
-  pub nodes : ℕ
-  pub items : ℕ
-  pub frames : ℕ
-  pub allowed : accepted (formatOf t nodes items frames) ≡ true
-  pub holds : wholeTable (formatOf t nodes items frames) t ≡ t

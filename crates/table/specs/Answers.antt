@@ -5,7 +5,7 @@ use mathlib.Core.List.{List}
 use lib.ListN.{length}
 use Rattle.table.specs.declared.geometry.Geometry.{Geometry}
 use Rattle.table.specs.declared.answers.Refusal.{Refusal}
-use Rattle.table.specs.declared.answers.Refusal.the-variants.{EmptyOrShort, NotSound, NoGeometry, NoNode, NoItem, DeadNode, CheckpointOpen, NoCheckpoint, NoFrame, PlaceInvalid, NoHome, NotCreated, LastNumber, TooFewNodes, NoRecoveryCopy, ShortScratch}
+use Rattle.table.specs.declared.answers.Refusal.the-variants.{EmptyOrShort, NotSound, NoGeometry, NoNode, NoItem, DeadNode, CheckpointOpen, NoCheckpoint, NoFrame, PlaceInvalid, NoHome, NotCreated, LastNumber, TooFewNodes, NoRecoveryCopy, ShortScratch, TooManyFrames}
 use Rattle.table.specs.declared.answers.Answer.{Answer}
 use Rattle.table.specs.declared.answers.Answer.the-variants.{Done, NothingLeft, Refused}
 use Rattle.table.specs.declared.answers.Numbers.{Numbers}
@@ -29,6 +29,7 @@ refusalNumber LastNumber = 13
 refusalNumber TooFewNodes = 14
 refusalNumber NoRecoveryCopy = 15
 refusalNumber ShortScratch = 16
+refusalNumber TooManyFrames = 20
 
 -- document 01's answer, value and stores of each case: "A refusal carries its number; value and count are 0"
 abbrev pub numbersOf : Answer → Numbers

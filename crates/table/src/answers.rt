@@ -20,6 +20,7 @@ pub enum Refusal {
     TooFewNodes,
     NoRecoveryCopy,
     ShortScratch,
+    TooManyFrames,
 }
 
 // Carried out, with document 01's value and count of stores; document 01's 17, nothing left to create; or turned down.
@@ -60,6 +61,7 @@ fn refusal_number(refusal: Refusal) -> u64
         Refusal::TooFewNodes => 14,
         Refusal::NoRecoveryCopy => 15,
         Refusal::ShortScratch => 16,
+        Refusal::TooManyFrames => 20,
     }
 }
 

@@ -78,7 +78,7 @@ fn format_on(vectors: &mut Vectors, geometry: Geometry, length: usize) {
     call_near(vectors, &table, Call::Format { nodes, items, frames });
 }
 
-fn any_words(random: &mut Random, count: usize) -> Vec<u64> {
+pub fn any_words(random: &mut Random, count: usize) -> Vec<u64> {
     (0..count).map(|_| random.word()).collect()
 }
 

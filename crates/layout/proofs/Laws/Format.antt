@@ -1,18 +1,21 @@
 -- The laws of `specs/Format.antt`.
-use Prim.Native.Nat.{ℕ, _<_, _≤_}
+use Prim.Native.Nat.{ℕ}
 use mathlib.Core.Path.{_≡_}
+use mathlib.Core.Bool.{true, false}
 use mathlib.Core.List.{List, [], _∷_, map}
+use native.Mathlib.Omega.{arith}
+use lib.Dec.{ltb}
 use lib.ListN.{length}
-use borrow.Author.Tests.{le-leb, lt-leb}
+use borrow.Author.Tests.{le-leb, lt-leb, ltb-true, ltb-false}
 use Rattle.table.specs.declared.geometry.Geometry.{Geometry}
 use Rattle.table.specs.declared.geometry.Made.{Made}
 use Rattle.table.specs.declared.geometry.Made.the-variants.{Allowed, NotAllowed}
-use Rattle.table.specs.declared.answers.Refusal.the-variants.{EmptyOrShort, NoGeometry}
+use Rattle.table.specs.declared.answers.Refusal.the-variants.{EmptyOrShort, NoGeometry, TooManyFrames}
 use Rattle.table.specs.Geometry.{geometryOf, wordsOf}
 use Rattle.table.specs.Stores.{sizeStore, entryStore, runs, Stored}
 use Rattle.table.proofs.Laws.Stores.{nested-flat, stored-then}
 use Rattle.table.specs.Answers.{refuse, carry}
-use Rattle.layout.specs.Format.{firstEntry, firstMark, firstEntries, formatStores, formatMade, formatOf}
+use Rattle.layout.specs.Format.{firstEntry, firstMark, firstEntries, formatStores, unusableFrames, formatMade, formatOf}
 
 -- ---- the ways of the code
 
@@ -38,10 +41,15 @@ module _ (t : List ℕ) (nodes items frames : ℕ) {made : Made} (e : made ≡ g
   format-refused h = rw (← e, h)
 
   module _ {g : Geometry} (h : made ≡ Allowed g) where
-    pub format-short : length t < wordsOf g → formatOf t nodes items frames ≡ refuse EmptyOrShort
+    pub format-unusable : unusableFrames g ≡ true → formatOf t nodes items frames ≡ refuse TooManyFrames
     unfolding formatMade
-    format-short l = rw (← e, h, lt-leb (wordsOf g) (length t) l)
+    format-unusable u = rw (← e, h, u)
 
-    pub format-carried : wordsOf g ≤ length t → formatOf t nodes items frames ≡ carry g 0 (formatStores g)
-    unfolding formatMade
-    format-carried l = rw (← e, h, le-leb (wordsOf g) (length t) l)
+    module _ (u : unusableFrames g ≡ false) {words : ℕ} (w : words ≡ wordsOf g) where
+      pub format-short : ltb (length t) words ≡ true → formatOf t nodes items frames ≡ refuse EmptyOrShort
+      unfolding formatMade
+      format-short l = rw (← e, h, u, lt-leb (wordsOf g) (length t) (omega (arith, w, ltb-true (length t) words l)))
+
+      pub format-carried : ltb (length t) words ≡ false → formatOf t nodes items frames ≡ carry g 0 (formatStores g)
+      unfolding formatMade
+      format-carried l = rw (← e, h, u, le-leb (wordsOf g) (length t) (omega (arith, w, ltb-false (length t) words l)))

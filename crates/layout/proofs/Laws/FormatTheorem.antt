@@ -1,4 +1,5 @@
--- THE THEOREM of Format: whatever the slice held before, a formatted table passes the table checks, for every allowed geometry. And what it shows.
+-- What Format's list leaves: whatever the slice held before, a table that is sound, for every allowed geometry. And
+-- what an accepted Format is.
 use mathlib.Core.Path.{_≡_, refl, sym, ap, _∙_}
 use mathlib.Core.Logic.{_≢_}
 use mathlib.Core.Bool.{true, not}
@@ -11,20 +12,19 @@ use lib.Dec.{eqb, leb}
 use lib.ListN.{length, getD, set}
 use lib.Seq.{getD-set-same}
 use borrow.Author.Tests.{eq-eqb, leb-true}
-use Rattle.counting.proofs.Laws.Tests.{and-both, and-no, both, by-cases}
+use Rattle.counting.proofs.Laws.Tests.{and-both, and-no, by-cases}
 use Rattle.counting.specs.Counting.{sum}
 use Rattle.counting.proofs.Laws.Counting.{sum-ext, Only}
 use Rattle.table.specs.declared.geometry.Geometry.{Geometry}
 use Rattle.table.specs.declared.geometry.Made.{Made}
 use Rattle.table.specs.declared.geometry.Made.the-variants.{Allowed, NotAllowed}
-use Rattle.entries.specs.declared.check.Checked.the-variants.{Passed as PassedChecks}
 use Rattle.table.specs.Words.{sharedCK1, sharedCK2, stateForm, stateWord, markWord, markForm, phaseOf, numberOf, sizeWord}
 use Rattle.table.proofs.Laws.Words.{current-state, kept-state}
 use Rattle.table.proofs.Laws.Forms.{alone-form}
-use Rattle.table.specs.Geometry.{allowed, inRanges, geometryOf, wordsOf}
-use Rattle.table.proofs.Laws.Geometry.{sized, roomy, made-allowed}
+use Rattle.table.specs.Geometry.{allowed, geometryOf, wordsOf}
+use Rattle.table.proofs.Laws.Geometry.{made-allowed}
 use Rattle.table.specs.Stores.{Store, sizeStore, addressOf, wordOf, after, runs}
-use Rattle.table.proofs.Laws.Stores.{All, none, more, all-then, all-runs, after-length, after-off}
+use Rattle.table.proofs.Laws.Stores.{All, none, more, all-then, all-runs, after-off}
 use Rattle.table.specs.View.{Entry, View, view, live, current, kept}
 use Rattle.table.proofs.Laws.Puts.{put₁-case}
 use Rattle.table.proofs.Laws.Via.{Via, done, step, via-then, via-weaken, via-loosen, via-runs, via-whole}
@@ -34,10 +34,10 @@ use Rattle.entries.proofs.Laws.Frames.{frames-state}
 use Rattle.entries.specs.Tally.{has}
 use Rattle.entries.proofs.Laws.Kinds.{Clean, clean, has-code, copy-code, cleanCode}
 use Rattle.entries.proofs.Laws.SoundFacts.{SoundTable}
-use Rattle.entries.specs.Check.{faultOf}
-use Rattle.entries.proofs.Laws.CheckFacts.{facts-accepted}
-use Rattle.table.specs.Answers.{refuse, carry}
-use Rattle.layout.specs.Format.{firstPlace, firstEntry, firstMark, firstEntries, formatStores, formatMade, formatOf}
+use Rattle.table.specs.Answers.{carry}
+use Rattle.table.proofs.Laws.Answers.{refused-not}
+use Rattle.layout.specs.Format.{firstPlace, firstEntry, firstMark, firstEntries, formatStores, unusableFrames, formatMade, formatOf}
+use Rattle.layout.specs.Formatted.{freshOn}
 use Rattle.layout.proofs.Laws.FirstPlaces.{first-on, second-on, first-only, second-only, place-clean, place-small, holding, held-fits}
 
 -- an entry of a formatted table
@@ -45,7 +45,7 @@ abbrev pub formattedEntry : ℕ → ℕ → ℕ → Entry
 formattedEntry N n b = record { state = stateWord (firstPlace N n b) 0; value = 0; keptValue = 0 }
 
 -- what a formatted table shows
-pub record Formatted (g : Geometry) (v : View) : Type 0 where
+pub record FormattedView (g : Geometry) (v : View) : Type 0 where
   pub mark : (n : ℕ) → n < g .nodes → v .mark n ≡ markWord 0 0
   pub entry : (n b : ℕ) → n < g .nodes → b < g .items → v .entry n b ≡ formattedEntry (g .nodes) n b
 
@@ -63,7 +63,7 @@ module _ (g : Geometry) where
   unfolding marked
   marks-via v = via-runs marked (g .nodes) firstMark mark-turn tt (λ n l. absurd (omega arith))
 
-  entries-via : (u : View) → marked (g .nodes) u → Via g (λ _. Unit {0}) (Formatted g) u (firstEntries g)
+  entries-via : (u : View) → marked (g .nodes) u → Via g (λ _. Unit {0}) (FormattedView g) u (firstEntries g)
   unfolding marked firstEntries
   entries-via u m = via-loosen
       (via-weaken
@@ -79,13 +79,13 @@ module _ (g : Geometry) where
       }))
       (λ w _. tt)
 
-  pub format-via : (v : View) → Via g (λ _. Unit {0}) (Formatted g) v (formatStores g)
+  pub format-via : (v : View) → Via g (λ _. Unit {0}) (FormattedView g) v (formatStores g)
   unfolding formatStores
   format-via v = step tt tt (via-then (marks-via v) (λ w _ m. entries-via w m))
 
 -- ---- what it shows is sound
 
-module _ (g : Geometry) (v : View) (f : Formatted g v) (big : 3 ≤ g .nodes) where
+module _ (g : Geometry) (v : View) (f : FormattedView g v) (big : 3 ≤ g .nodes) where
   abbrev N : ℕ
   N = g .nodes
 
@@ -139,28 +139,7 @@ module _ (g : Geometry) (v : View) (f : Formatted g v) (big : 3 ≤ g .nodes) wh
     items = λ b k. clean (formatted-clean b k);
   }
 
--- ---- the theorem
-
--- an accepted format: an allowed geometry, a table long enough for it, and these stores
-pub record FormatAccepted (t : List ℕ) (g : Geometry) (ss : List Store) : Type 0 where
-  pub fair : allowed (g .nodes) (g .items) (g .frames) ≡ true
-  pub long : wordsOf g ≤ length t
-  pub stores : ss ≡ formatStores g
-
-pub format-accepted : (t : List ℕ) (n m f : ℕ) {g : Geometry} {x : ℕ} {ss : List Store} → formatOf t n m f ≡ carry g x ss → FormatAccepted t g ss
-unfolding formatMade
-format-accepted t n m f {g} {x} {ss} e = from-made (geometryOf n m f) refl e
-  where
-    from-made : (a : Made) → a ≡ geometryOf n m f → formatMade t a ≡ carry g x ss → FormatAccepted t g ss
-    from-made NotAllowed p e = let z : _≡_ {A = ℕ} 0 1 = cc in absurd (omega arith)
-    from-made (Allowed h) p e = by-cases (leb (wordsOf h) (length t))
-        (λ l. let e′ : carry h 0 (formatStores h) ≡ carry g x ss = rw l at e in
-        let same : h ≡ g = cc in
-        let list : formatStores h ≡ ss = cc in
-        let mk = made-allowed n m f h (sym p) in
-        let fair : allowed (h .nodes) (h .items) (h .frames) ≡ true = rw (mk .1) (mk .0) in
-        record { fair = rw same at fair; long = rw same at (leb-true (wordsOf h) (length t) l); stores = sym list ∙ ap formatStores same })
-        (λ l. let e′ : refuse _ ≡ carry g x ss = rw l at e in let z : _≡_ {A = ℕ} 0 1 = cc in absurd (omega arith))
+-- ---- the list on a table
 
 -- all stores but the first leave word 0
 first-word :
@@ -177,25 +156,42 @@ format-off g =
     all-then (all-runs firstMark (g .nodes) (λ i l. more (λ e. omega arith) none))
     (all-runs _ (g .nodes * g .items) (λ k l. more (λ e. omega arith) (more (λ e. omega arith) (more (λ e. omega arith) none))))
 
-module _ (t : List ℕ) (n m f : ℕ) {g : Geometry} {x : ℕ} {ss : List Store} (accepted : formatOf t n m f ≡ carry g x ss) (limit : ℕ) (whole : length ss ≤ limit) where
-  pub format-shows : Formatted g (view g (after g limit ss t))
-  format-shows =
-      let a = format-accepted t n m f accepted in
-      let l = rw (a .stores) at whole in
-      rw (a .stores) (via-whole t (a .long) (format-via g (view g t)) limit l)
+module _ (t : List ℕ) (g : Geometry) (long : wordsOf g ≤ length t) where
+  pub list-shows : FormattedView g (view g (freshOn g t))
+  list-shows = via-whole t long (format-via g (view g t)) (length (formatStores g)) (omega arith)
 
-  word-0 : getD (after g limit ss t) 0 0 ≡ sizeWord (g .nodes) (g .items) (g .frames)
+  pub list-word : getD (freshOn g t) 0 0 ≡ sizeWord (g .nodes) (g .items) (g .frames)
   unfolding formatStores
-  word-0 =
-      let a = format-accepted t n m f accepted in
-      let l : length (formatStores g) ≤ limit = rw (a .stores) at whole in
-      rw (a .stores) (first-word g limit t (format-off g) (omega arith) (omega (arith, a .long)))
+  list-word = first-word g (length (formatStores g)) t (format-off g) (omega arith) (omega arith)
 
-  pub format-sound : faultOf (after g limit ss t) ≡ PassedChecks g
-  format-sound =
-      let a = format-accepted t n m f accepted in
-      let s = sized (g .nodes) (g .items) (g .frames) (both (inRanges (g .nodes) (g .items) (g .frames)) (a .fair) .0) in
-      facts-accepted (after g limit ss t) g 0 0 (record {
-        shape = record { word = word-0; fair = a .fair; sizes = s; long = rw (after-length g limit ss t) (a .long) };
-        table = formatted-sound g (view g (after g limit ss t)) format-shows (s .nodes-low) (s .frames-low) (roomy _ _ _ (a .fair));
-      })
+-- ---- an accepted Format: an allowed geometry with the items asked for, a table long enough for it, and these stores
+
+pub record FormatAccepted (t : List ℕ) (m : ℕ) (g : Geometry) (ss : List Store) : Type 0 where
+  pub fair : allowed (g .nodes) (g .items) (g .frames) ≡ true
+  pub items : g .items ≡ m
+  pub long : wordsOf g ≤ length t
+  pub stores : ss ≡ formatStores g
+
+pub format-accepted :
+    (t : List ℕ) (n m f : ℕ) {g : Geometry} {x : ℕ} {ss : List Store} → formatOf t n m f ≡ carry g x ss
+    → FormatAccepted t m g ss
+unfolding formatMade
+format-accepted t n m f {g} {x} {ss} e = from-made (geometryOf n m f) refl e
+  where
+    from-made : (a : Made) → a ≡ geometryOf n m f → formatMade t a ≡ carry g x ss → FormatAccepted t m g ss
+    from-made NotAllowed p e = absurd (refused-not e)
+    from-made (Allowed h) p e = by-cases (unusableFrames h)
+        (λ u. absurd (refused-not (rw u at e)))
+        (λ u. by-cases (leb (wordsOf h) (length t))
+        (λ l. let e′ : carry h 0 (formatStores h) ≡ carry g x ss = rw (u, l) at e in
+        let same : h ≡ g = cc in
+        let list : formatStores h ≡ ss = cc in
+        let mk = made-allowed n m f h (sym p) in
+        let fair : allowed (h .nodes) (h .items) (h .frames) ≡ true = rw (mk .1) (mk .0) in
+        record {
+          fair = rw same at fair;
+          items = ap (λ g. g .items) (sym same ∙ mk .1);
+          long = rw same at (leb-true (wordsOf h) (length t) l);
+          stores = sym list ∙ ap formatStores same;
+        })
+        (λ l. absurd (refused-not (rw (u, l) at e))))

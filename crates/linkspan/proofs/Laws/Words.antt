@@ -1,5 +1,5 @@
 -- Laws of `specs/Report.antt`: the words that a table needs.
-use Prim.Native.Nat.{ℕ, _-_, _*_, _≤_}
+use Prim.Native.Nat.{ℕ, _-_, _*_, _<_, _≤_}
 use mathlib.Core.Path.{_≡_, refl, sym, ap, _∙_}
 use mathlib.Core.Bool.{true}
 use native.Mathlib.Omega.{arith}
@@ -10,12 +10,23 @@ use Rattle.table.specs.declared.geometry.Geometry.{Geometry}
 use Rattle.table.specs.declared.geometry.Made.{Made}
 use Rattle.table.specs.declared.geometry.Made.the-variants.{Allowed, NotAllowed}
 use Rattle.table.specs.Geometry.{inRanges, allowed, geometryOf, wordsOf}
-use Rattle.table.proofs.Laws.Geometry.{sized, roomy, made-allowed, allowed-made}
+use Rattle.table.proofs.Laws.Geometry.{sized, made-allowed, allowed-made}
 use Rattle.linkspan.specs.Report.{madeWords, wordsFor}
 
 -- ---- the ways of the code
 
-module _ (n m : ℕ) {made : Made} (e : made ≡ geometryOf n m 512) where
+-- more items than a table has
+pub words-past : (n m : ℕ) → 256 < m → 0 ≡ wordsFor n m
+unfolding wordsFor madeWords
+words-past n m h = none-by (geometryOf n m (2 * m)) refl
+  where
+    none-by : (made : Made) → geometryOf n m (2 * m) ≡ made → 0 ≡ madeWords made
+    none-by NotAllowed e = refl
+    none-by (Allowed g) e =
+        let k = made-allowed n m (2 * m) g e in
+        absurd (omega (arith, h, sized n m (2 * m) (both (inRanges n m (2 * m)) (k .0) .0)))
+
+module _ (n m : ℕ) {made : Made} (e : made ≡ geometryOf n m (2 * m)) where
   pub words-none : made ≡ NotAllowed → 0 ≡ wordsFor n m
   unfolding wordsFor madeWords
   words-none h = sym (ap madeWords (sym e ∙ h))
@@ -26,19 +37,27 @@ module _ (n m : ℕ) {made : Made} (e : made ≡ geometryOf n m 512) where
 
 -- ---- what the number tells
 
--- a geometry stays allowed with the most frames
-pub most-frames : (n m f : ℕ) → allowed n m f ≡ true → allowed n m 512 ≡ true
-most-frames n m f h =
+-- a geometry stays allowed with a frame for each place
+pub all-places : (n m f : ℕ) → allowed n m f ≡ true → allowed n m (2 * m) ≡ true
+all-places n m f h =
     let s = sized n m f (both (inRanges n m f) h .0) in
-    let k : (n - 2) * f ≤ (n - 2) * 512 = mul-le-mul (omega arith) (s .frames-high) in
-    rw (le-leb 3 n (s .nodes-low), le-leb n 16 (s .nodes-high), le-leb 1 m (s .items-low), le-leb m 256 (s .items-high), le-ltb ((n - 2) * 512) (2 * m - 1) (omega (arith, k, roomy n m f h))) refl
+    let k : 1 * (2 * m) ≤ (n - 2) * (2 * m) = mul-le-mul (omega (arith, s .nodes-low)) (omega arith) in
+    rw (
+      le-leb 3 n (s .nodes-low),
+      le-leb n 16 (s .nodes-high),
+      le-leb 1 m (s .items-low),
+      le-leb m 256 (s .items-high),
+      le-leb 1 (2 * m) (omega (arith, s .items-low)),
+      le-leb (2 * m) 512 (omega (arith, s .items-high)),
+      le-ltb ((n - 2) * (2 * m)) (2 * m - 1) (omega (arith, k)),
+    ) refl
 
 -- every geometry of these nodes and items has these words
 pub words-of-any : (n m f : ℕ) (g : Geometry) → geometryOf n m f ≡ Allowed g → wordsFor n m ≡ wordsOf g
 unfolding wordsFor madeWords
 words-of-any n m f g e =
     let k = made-allowed n m f g e in
-    rw (allowed-made n m 512 (most-frames n m f (k .0)), k .1) refl
+    rw (allowed-made n m (2 * m) (all-places n m f (k .0)), k .1) refl
 
 -- 0 where there is none
 pub no-words : (n m : ℕ) → wordsFor n m ≡ 0 → (f : ℕ) → geometryOf n m f ≡ NotAllowed

@@ -3,7 +3,6 @@ use Prim.Native.Nat.{ℕ, _≤_}
 use mathlib.Core.Path.{_≡_, refl, sym, ap, _∙_}
 use mathlib.Core.Bool.{Bool, true, false, not, cond}
 use mathlib.Core.List.{List}
-use native.Mathlib.Omega.{arith}
 use lib.Dec.{ltb}
 use borrow.Author.Tests.{ltb-false, le-ltb, not-false}
 use Rattle.table.specs.declared.geometry.Geometry.{Geometry}
@@ -12,6 +11,7 @@ use Rattle.table.specs.declared.answers.Refusal.the-variants.{NotSound, NoNode,
 use Rattle.table.specs.Stores.{Store}
 use Rattle.table.specs.View.{View, view}
 use Rattle.table.specs.Answers.{Plan, refuse, carry}
+use Rattle.table.proofs.Laws.Answers.{refused-not}
 use Rattle.entries.specs.declared.check.Checked.{Checked}
 use Rattle.entries.specs.declared.check.Checked.the-variants.{Passed, Failed}
 use Rattle.entries.specs.Check.{sizesOf}
@@ -33,9 +33,6 @@ pub record Carries (t : List ℕ) (lost : Lost) (scratch : ℕ) (g : Geometry) (
   pub enoughNodes : tooFew g (survivors lost (view g t)) ≡ false
   pub fit : itemsFit g (survivors lost (view g t)) ≡ true
   pub stores-are : ss ≡ recoverStores g lost (view g t)
-
-pub refused-not : {r : Refusal} {g : Geometry} {x : ℕ} {ss : List Store} → refuse r ≡ carry g x ss → ⊥
-refused-not e = let z : _≡_ {A = ℕ} 0 1 = cc in omega arith
 
 admitted-plan :
     (a : Admission) {p : Plan} {g : Geometry} {x : ℕ} {ss : List Store} → planAdmitted a p ≡ carry g x ss → (a ≡ Admitted) × (p ≡ carry g x ss)

@@ -16,13 +16,14 @@ use Rattle.table.specs.Answers.{Plan, refuse, nothingLeft, carry, tableOf}
 use Rattle.homes.proofs.Laws.Kept.{test-live}
 use Rattle.survivors.specs.declared.lost.Lost.{Lost}
 use Rattle.survivors.specs.declared.lost.Lost.the-variants.{Nobody, Node}
+use Rattle.layout.specs.Formatted.{Formatted}
 use Rattle.restore.specs.declared.call.Call.{Call}
 use Rattle.restore.specs.declared.call.Call.the-variants.{Format, Check, Stretch, Read, Write, Evict, Open, Create, Commit, Abandon, Recover}
 use Rattle.survivors.specs.Survivors.{survivors, carries}
 use Rattle.recovery.proofs.Laws.Recovered.{Recovered}
 use Rattle.restore.specs.Call.{refused, accepted}
 use Rattle.restore.specs.Memory.{Memory, zeros, carried, fed, valueOf, savedIn}
-use Rattle.restore.specs.Run.{Step, geometryIn, planAt, tableBy, finished, run, toPoint, commitsFrom, memoryFrom, Formatted}
+use Rattle.restore.specs.Run.{Step, geometryIn, planAt, tableBy, finished, run, toPoint, commitsFrom, memoryFrom}
 use Rattle.restore.specs.Strike.{isCommit, Strike, fourteen, attempted, recovered, surviving, commitCounts, memoryBy, commitsBy}
 use Rattle.restore.specs.OneItem.{HasValue}
 use Rattle.restore.specs.History.{begun}
@@ -78,7 +79,7 @@ has-as g g′ t b x x′ e f h = rw (← e, ← f) h
 
 module _ (t₀ : List ℕ) (formatted : Formatted t₀) (calls : List Step) (strike : Strike (run t₀ calls)) where
   abbrev fedList : Memory
-  fedList = memoryFrom (zeros (formatted .items)) t₀ calls
+  fedList = memoryFrom (zeros (formatted .geometry .items)) t₀ calls
 
   abbrev done : ℕ
   done = commitsFrom 0 t₀ calls
@@ -115,7 +116,9 @@ module _ (t₀ : List ℕ) (formatted : Formatted t₀) (calls : List Step) (str
 
   -- it does not: the last point of the list, or the formatted table
   last : AtPoint (run t₀ (toPoint t₀ calls)) (fedList .saved) × (geometryIn (run t₀ (toPoint t₀ calls)) ≡ g)
-  last = last-point calls t₀ (replicate (formatted .items) 0) (record { commits = 0; good = good-begins t₀ formatted })
+  last =
+      last-point calls t₀ (replicate (formatted .geometry .items) 0)
+      (record { commits = 0; good = good-begins t₀ formatted })
 
   without : (b : ℕ) → b < g .items → HasValue (view g (run t₀ (toPoint t₀ calls))) b (savedIn fedList b)
   without b l = has-as (geometryIn (run t₀ (toPoint t₀ calls))) g (run t₀ (toPoint t₀ calls)) b (savedIn fedList b) (savedIn fedList b) (last .1) refl (good-has (run t₀ (toPoint t₀ calls)) _ _ (last .0 .good) b (subst (λ h. b < h .items) (sym (last .1)) l))

@@ -21,7 +21,7 @@ use Rattle.table.specs.Answers.{Plan, refuse, nothingLeft, carry}
 use Rattle.entries.specs.declared.check.Checked.{Checked}
 use Rattle.entries.specs.declared.check.Checked.the-variants.{Passed, Failed}
 use Rattle.entries.specs.Check.{sizesOf, faultOf}
-use Rattle.layout.specs.Format.{formatMade, formatOf}
+use Rattle.layout.specs.Format.{unusableFrames, formatMade, formatOf}
 use Rattle.layout.specs.Stretch.{checkedPlan, checkOf, stretchChecked, stretchOf}
 use Rattle.homes.specs.declared.admission.Admission.{Admission}
 use Rattle.homes.specs.declared.admission.Admission.the-variants.{Admitted, Turned}
@@ -80,7 +80,10 @@ format-something t n m f e = go (geometryOf n m f) e
   where
     go : (made : Made) → formatMade t made ≡ nothingLeft → ⊥
     go NotAllowed e = refuse-something e
-    go (Allowed g) e = by-cases (leb (wordsOf g) (length t)) (λ y. carry-something (rw y at e)) (λ y. refuse-something (rw y at e))
+    go (Allowed g) e = by-cases (unusableFrames g)
+        (λ u. refuse-something (rw u at e))
+        (λ u. by-cases (leb (wordsOf g) (length t))
+        (λ l. carry-something (rw (u, l) at e)) (λ l. refuse-something (rw (u, l) at e)))
 
 -- ---- Check and Stretch store nothing
 

@@ -1,70 +1,49 @@
 -- One whole call more: the table stays related to the plain memory.
 use Prim.Native.Nat.{ℕ, _<_}
 use mathlib.Core.Path.{_≡_, refl, sym, ap, _∙_}
-use mathlib.Core.Bool.{true, not, cond}
+use mathlib.Core.Bool.{not, cond}
 use mathlib.Core.List.{List}
 use native.Mathlib.Omega.{arith}
 use native.Mathlib.Decide.{ℕ-discrete}
 use lib.ListN.{length, getD, set, replicate, length-set, length-replicate, getD-replicate}
 use lib.Seq.{getD-set-same, getD-set-other}
-use lib.Dec.{leb}
 use borrow.Author.Tests.{eq-eqb, ne-eqb}
-use Rattle.counting.proofs.Laws.Tests.{by-cases, no-both}
 use Rattle.table.specs.declared.geometry.Geometry.{Geometry}
-use Rattle.table.specs.declared.geometry.Made.{Made}
-use Rattle.table.specs.declared.geometry.Made.the-variants.{Allowed, NotAllowed}
-use Rattle.table.specs.Geometry.{geometryOf, wordsOf}
-use Rattle.table.proofs.Laws.Geometry.{made-allowed}
 use Rattle.table.specs.Stores.{Store, after}
 use Rattle.table.specs.Answers.{Plan, refuse, nothingLeft, carry}
-use Rattle.layout.specs.Format.{formatStores, formatMade, formatOf}
+use Rattle.layout.specs.Format.{formatOf}
+use Rattle.layout.specs.Formatted.{Formatted}
+use Rattle.layout.proofs.Laws.FormatTheorem.{format-accepted}
+use Rattle.layout.proofs.Laws.Formatted.{go-on-working}
 use Rattle.homes.proofs.Laws.Serves.{Serves, same-geometry}
-use Rattle.homes.proofs.Laws.FormatServes.{format-serves}
+use Rattle.homes.proofs.Laws.FormatServes.{formatted-serves}
 use Rattle.calls.proofs.Laws.WriteTheorem.{carried as carriedWrite, admits}
 use Rattle.calls.proofs.Laws.WriteServes.{written, write-serves}
 use Rattle.calls.specs.Write.{writeOf}
 use Rattle.restore.specs.declared.call.Call.{Call}
-use Rattle.restore.specs.Call.{refused, accepted}
+use Rattle.restore.specs.Call.{refused}
 use Rattle.restore.specs.Memory.{Memory, zeros, carried, fed, valueOf, savedIn}
-use Rattle.restore.specs.Run.{geometryIn, wholeTable, commitsWith, Formatted}
-use Rattle.recovery.proofs.Laws.RecoverPlan.{refused-not}
+use Rattle.restore.specs.Run.{geometryIn, wholeTable, commitsWith}
 use Rattle.restore.proofs.Laws.Good.{Good, good-by, serves-as}
 
 -- ---- a formatted table, and one that is formatted now
 
--- Format's geometry has the items asked for
-pub format-items :
-    (t : List ℕ) (n m f : ℕ) {g : Geometry} {x : ℕ} {ss : List Store} → formatOf t n m f ≡ carry g x ss → g .items ≡ m
-unfolding formatMade
-format-items t n m f {g} {x} {ss} e = go (geometryOf n m f) refl e
-  where
-    go : (made : Made) → made ≡ geometryOf n m f → formatMade t made ≡ carry g x ss → g .items ≡ m
-    go NotAllowed p e = absurd (refused-not e)
-    go (Allowed h) p e =
-        by-cases (leb (wordsOf h) (length t))
-        (λ y. let e′ : carry h 0 (formatStores h) ≡ carry g x ss = rw y at e in
-        let same : h ≡ g = cc in
-        ap (λ g. g .items) (sym same ∙ made-allowed n m f h (sym p) .1))
-        (λ y. absurd (refused-not (rw y at e)))
-
-zeros-good :
-    (t : List ℕ) (g : Geometry) (m : ℕ) → g .items ≡ m → Serves t g (λ b. 0) (λ b. 0) 0 → Good t (zeros m) 0
-zeros-good t g m e s =
-    let here : (b : ℕ) → b < g .items → _≡_ {A = ℕ} 0 (getD (replicate m 0) b 0) = λ b h. sym (getD-replicate m b 0 0 (omega arith)) in
-    good-by t g (zeros m) 0 (serves-as t g (λ b. 0) _ (λ b. 0) _ 0 here here s) (length-replicate m 0 ∙ sym e) (length-replicate m 0 ∙ sym e)
+pub good-begins : (t : List ℕ) (f : Formatted t) → Good t (zeros (f .geometry .items)) 0
+good-begins t f =
+    let g = f .geometry in
+    let m = g .items in
+    let here : (b : ℕ) → b < m → _≡_ {A = ℕ} 0 (getD (replicate m 0) b 0) = λ b h. sym (getD-replicate m b 0 0 h) in
+    good-by t g (zeros m) 0 (serves-as t g (λ b. 0) _ (λ b. 0) _ 0 here here (formatted-serves t f))
+    (length-replicate m 0) (length-replicate m 0)
 
 pub good-format :
-    (t : List ℕ) (n m f : ℕ) {g : Geometry} {x : ℕ} {ss : List Store} → formatOf t n m f ≡ carry g x ss → Good (after g (length ss) ss t) (zeros m) 0
+    (t : List ℕ) (n m f : ℕ) {g : Geometry} {x : ℕ} {ss : List Store} → formatOf t n m f ≡ carry g x ss
+    → Good (after g (length ss) ss t) (zeros m) 0
 good-format t n m f {g} {x} {ss} e =
-    zeros-good _ g m (format-items t n m f e) (format-serves t n m f e (length ss) (omega arith))
-
-pub good-begins : (t : List ℕ) (f : Formatted t) → Good t (zeros (f .items)) 0
-good-begins t f = go (formatOf t (f .nodes) (f .items) (f .frames)) refl (f .allowed) (f .holds)
-  where
-    go : (p : Plan) → p ≡ formatOf t (f .nodes) (f .items) (f .frames) → accepted p ≡ true → wholeTable p t ≡ t → Good t (zeros (f .items)) 0
-    go (refuse r) q a h = absurd (no-both a refl)
-    go nothingLeft q a h = absurd (no-both a refl)
-    go (carry g x ss) q a h = rw h at (good-format t (f .nodes) (f .items) (f .frames) (sym q))
+    let w = go-on-working .by-format t n m f g x ss e in
+    let a = format-accepted t n m f e in
+    let items : w .formatted .geometry .items ≡ m = ap (λ g. g .items) (w .geometry-is) ∙ a .items in
+    rw items at (good-begins _ (w .formatted))
 
 -- ---- one call
 

@@ -1,6 +1,8 @@
--- Along a history no call but Format is refused with 1, 2 or 3: on a table that passes its checks every refusal of a call is one of its own.
+-- Along a history no call but Format is refused with 1, 2, 3 or 20: on a table that passes its checks every refusal of
+-- a call is one of its own.
 use Prim.Native.Nat.{ℕ, _-_, _^_, _<_}
 use mathlib.Core.Path.{_≡_, refl, ap}
+use mathlib.Core.Logic.{_≢_}
 use mathlib.Core.Bool.{Bool, true, false, not, cond}
 use mathlib.Core.List.{List, []}
 use native.Mathlib.Omega.{arith}
@@ -45,7 +47,7 @@ use Rattle.restore.proofs.Laws.RecoverGood.{good-sizes, good-ready}
 
 -- a refusal of the call's own
 abbrev OwnRefusal : Refusal → Type 0
-OwnRefusal r = 3 < refusalNumber r
+OwnRefusal r = (3 < refusalNumber r) × (refusalNumber r ≢ 20)
 
 record Own (a : Admission) : Type 0 where
   own : (r : Refusal) → a ≡ Turned r → OwnRefusal r
@@ -189,5 +191,7 @@ module _ (t : List ℕ) (memory : Memory) (commits : ℕ) (good : Good t memory 
   call-own scratch (Recover lost) h = recovery-own lost scratch
 
   -- THE LAW
-  pub never-for-table : (scratch : ℕ) (call : Call) → isFormat call ≡ false → (r : Refusal) → planOf t scratch call ≡ refuse r → 3 < refusalNumber r
+  pub never-for-table :
+      (scratch : ℕ) (call : Call) → isFormat call ≡ false → (r : Refusal) → planOf t scratch call ≡ refuse r
+      → OwnRefusal r
   never-for-table scratch call h = call-own scratch call h .own

@@ -6,9 +6,10 @@ use mathlib.Core.List.{List, [], _∷_}
 use native.Mathlib.Omega.{arith}
 use lib.ListN.{replicate}
 use Rattle.survivors.specs.declared.lost.Lost.the-variants.{Node}
+use Rattle.layout.specs.Formatted.{Formatted}
 use Rattle.restore.specs.declared.call.Call.the-variants.{Format, Write, Open, Create, Commit}
 use Rattle.restore.specs.Memory.{savedIn}
-use Rattle.restore.specs.Run.{commitsFrom, memoryFrom, Formatted, tableBy, run}
+use Rattle.restore.specs.Run.{commitsFrom, memoryFrom, tableBy, run}
 use Rattle.restore.specs.Rehearsal.{callAt, stepsTo, nodeWordAt, putTo, hitNode, hitSized, hitBy, Script, wholeCalls, Demanded, strike, tooFewLeft}
 use Rattle.restore.specs.Operations.{callBy}
 use Rattle.restore.proofs.Laws.RehearsalHit.{hit-struck}
@@ -106,7 +107,8 @@ unfolding every sum count first firstOr valuesOf geometryOf changeOf runs after 
     recoverAdmission recoverChecked recoverOf planOf run placeBy lostBy callBy callAt stepsTo nodeWordAt putTo
     hitNode hitSized hitBy commitsFrom memoryFrom
 shown =
-    let formatted : Formatted formattedTable = record { nodes = 3; items = 1; frames = 2; allowed = refl; holds = refl } in
+    let formatted : Formatted formattedTable =
+    record { geometry = record { nodes = 3; items = 1; frames = 2 }; fair = refl; long = omega arith; holds = refl } in
     record {
       formatted = formatted;
       sooner = record { formatted = formatted; cuttable = refl; one = refl; enough = omega arith };

@@ -11,6 +11,7 @@ use Rattle.table.proofs.Laws.Geometry.{Sized, sized, product}
 use Rattle.table.specs.Stores.{Store}
 use Rattle.table.specs.View.{View, view}
 use Rattle.table.specs.Answers.{Plan, refuse, nothingLeft, carry, tableOf}
+use Rattle.table.proofs.Laws.Answers.{refused-not}
 use Rattle.entries.proofs.Laws.CheckFacts.{sizes-facts, accepted-facts}
 use Rattle.layout.specs.Format.{formatOf}
 use Rattle.layout.proofs.Laws.FormatTheorem.{format-accepted}
@@ -29,7 +30,7 @@ use Rattle.survivors.specs.declared.lost.Lost.{Lost}
 use Rattle.restore.specs.declared.call.Call.{Call}
 use Rattle.restore.specs.declared.call.Call.the-variants.{Format, Check, Stretch, Read, Write, Evict, Open, Create, Commit, Abandon, Recover}
 use Rattle.recovery.specs.Recover.{recoverOf}
-use Rattle.recovery.proofs.Laws.RecoverPlan.{recover-carries, refused-not}
+use Rattle.recovery.proofs.Laws.RecoverPlan.{recover-carries}
 use Rattle.restore.specs.Call.{planOf}
 use Rattle.restore.specs.Run.{wholeTable}
 use Rattle.restore.proofs.Laws.GoodCall.{check-nothing, stretch-nothing}

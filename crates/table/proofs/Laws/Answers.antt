@@ -12,6 +12,10 @@ use Rattle.table.specs.Stores.{Store, Stored}
 use Rattle.table.proofs.Laws.Stores.{after-none}
 use Rattle.table.specs.Answers.{refusalNumber, numbersOf, Plan, refuse, carry, Meets, Told}
 
+-- a refusal is not carried out
+pub refused-not : {r : Refusal} {g : Geometry} {x : ℕ} {ss : List Store} → refuse r ≡ carry g x ss → ⊥
+refused-not e = let z : _≡_ {A = ℕ} 0 1 = cc in omega arith
+
 pub meets-refused : {p : Plan} {x : Refusal} (limit : ℕ) (t : List ℕ) → p ≡ refuse x → Meets p limit t t (Refused x)
 meets-refused limit t h = rw h (record { answer = refl; numbers = refl; table = refl })
 

@@ -9,7 +9,7 @@ use native.Mathlib.Numerals.{add-one}
 use lib.Arith.{digits-div, digits-mod}
 use lib.Dec.{lit<}
 use lib.ListN.{length, getD, set, length-set, length-append}
-use lib.Seq.{set-out, getD-set-other}
+use lib.Seq.{set-out, set-getD, getD-set-other}
 use Rattle.counting.specs.Counting.{sum}
 use Rattle.table.specs.declared.geometry.Geometry.{Geometry}
 use Rattle.table.specs.Stores.{Change, stateTo, valueTo, keptTo, Store, entryStore, partOf, addressOf, wordOf, after, runs, Stored, StoredIn, written, Wrote}
@@ -182,3 +182,15 @@ after-off g i zero t (more p a) = refl
 after-off g i (suc limit) t none = refl
 after-off g i (suc limit) t (more {s} p a) =
     after-off g i limit (set t (addressOf g s) (wordOf s)) a ∙ getD-set-other t (addressOf g s) i (wordOf s) 0 p
+
+-- stores of what is there already
+pub after-held :
+    (g : Geometry) (limit : ℕ) {ss : List Store} (t : List ℕ) → All (λ s. getD t (addressOf g s) 0 ≡ wordOf s) ss
+    → after g limit ss t ≡ t
+unfolding after
+after-held g zero t none = refl
+after-held g zero t (more p a) = refl
+after-held g (suc limit) t none = refl
+after-held g (suc limit) t (more {s} p a) =
+    let e : set t (addressOf g s) (wordOf s) ≡ t = ap (set t (addressOf g s)) (sym p) ∙ set-getD t (addressOf g s) 0 in
+    rw e (after-held g limit t a)
