@@ -100,7 +100,7 @@
  * 1 + N + 3 * N * M words; a longer slice is fine, the words past these are never touched.
  * F = 2 * M is allowed for every N and M and gives every place of a node a frame of its own: it is the
  * most that linkspan_format takes. A table that an earlier library formatted with more goes on working;
- * its frames beyond 2 * M stay unused.
+ * its frames beyond 2 * M stay unused, and when you format it anew, ask for 2 * M at most.
  *
  * Each node has an entry for each item, with two places: a current place and a kept place. A copy in
  * a place takes up one of the node's F frames. Current copies have the item's present value; one

@@ -22,7 +22,7 @@ pub mod EvictTells
 pub mod EvictMoves
 pub mod EvictTheorem
 pub mod Serves
-pub mod FormatServes
+pub mod FormattedServes
 pub mod EvictDone
 pub mod EvictLeaves
 pub mod EvictKind

@@ -3,6 +3,6 @@ pub mod Format
 pub mod Rows
 pub mod FormatRow
 pub mod FirstPlaces
-pub mod FormatTheorem
+pub mod FormattedView
 pub mod Formatted
 pub mod Stretch

@@ -1,20 +1,23 @@
 -- The laws of `specs/Format.antt`.
-use Prim.Native.Nat.{ℕ}
-use mathlib.Core.Path.{_≡_}
+use Prim.Native.Nat.{ℕ, _≤_}
+use mathlib.Core.Path.{_≡_, refl, sym, ap, _∙_}
 use mathlib.Core.Bool.{true, false}
 use mathlib.Core.List.{List, [], _∷_, map}
 use native.Mathlib.Omega.{arith}
-use lib.Dec.{ltb}
+use lib.Dec.{leb, ltb}
 use lib.ListN.{length}
-use borrow.Author.Tests.{le-leb, lt-leb, ltb-true, ltb-false}
+use borrow.Author.Tests.{le-leb, lt-leb, leb-true, ltb-true, ltb-false}
+use Rattle.counting.proofs.Laws.Tests.{by-cases}
 use Rattle.table.specs.declared.geometry.Geometry.{Geometry}
 use Rattle.table.specs.declared.geometry.Made.{Made}
 use Rattle.table.specs.declared.geometry.Made.the-variants.{Allowed, NotAllowed}
 use Rattle.table.specs.declared.answers.Refusal.the-variants.{EmptyOrShort, NoGeometry, TooManyFrames}
-use Rattle.table.specs.Geometry.{geometryOf, wordsOf}
-use Rattle.table.specs.Stores.{sizeStore, entryStore, runs, Stored}
+use Rattle.table.specs.Geometry.{allowed, geometryOf, wordsOf}
+use Rattle.table.proofs.Laws.Geometry.{made-allowed}
+use Rattle.table.specs.Stores.{Store, sizeStore, entryStore, runs, Stored}
 use Rattle.table.proofs.Laws.Stores.{nested-flat, stored-then}
 use Rattle.table.specs.Answers.{refuse, carry}
+use Rattle.table.proofs.Laws.Answers.{refused-not}
 use Rattle.layout.specs.Format.{firstEntry, firstMark, firstEntries, formatStores, unusableFrames, formatMade, formatOf}
 
 -- ---- the ways of the code
@@ -53,3 +56,35 @@ module _ (t : List ℕ) (nodes items frames : ℕ) {made : Made} (e : made ≡ g
       pub format-carried : ltb (length t) words ≡ false → formatOf t nodes items frames ≡ carry g 0 (formatStores g)
       unfolding formatMade
       format-carried l = rw (← e, h, u, le-leb (wordsOf g) (length t) (omega (arith, w, ltb-false (length t) words l)))
+
+-- ---- an accepted Format: an allowed geometry with the items asked for, a table long enough for it, and these stores
+
+pub record FormatAccepted (t : List ℕ) (m : ℕ) (g : Geometry) (ss : List Store) : Type 0 where
+  pub fair : allowed (g .nodes) (g .items) (g .frames) ≡ true
+  pub items : g .items ≡ m
+  pub long : wordsOf g ≤ length t
+  pub stores : ss ≡ formatStores g
+
+pub format-accepted :
+    (t : List ℕ) (n m f : ℕ) {g : Geometry} {x : ℕ} {ss : List Store} → formatOf t n m f ≡ carry g x ss
+    → FormatAccepted t m g ss
+unfolding formatMade
+format-accepted t n m f {g} {x} {ss} e = from-made (geometryOf n m f) refl e
+  where
+    from-made : (a : Made) → a ≡ geometryOf n m f → formatMade t a ≡ carry g x ss → FormatAccepted t m g ss
+    from-made NotAllowed p e = absurd (refused-not e)
+    from-made (Allowed h) p e = by-cases (unusableFrames h)
+        (λ u. absurd (refused-not (rw u at e)))
+        (λ u. by-cases (leb (wordsOf h) (length t))
+        (λ l. let e′ : carry h 0 (formatStores h) ≡ carry g x ss = rw (u, l) at e in
+        let same : h ≡ g = cc in
+        let list : formatStores h ≡ ss = cc in
+        let mk = made-allowed n m f h (sym p) in
+        let fair : allowed (h .nodes) (h .items) (h .frames) ≡ true = rw (mk .1) (mk .0) in
+        record {
+          fair = rw same at fair;
+          items = ap (λ g. g .items) (sym same ∙ mk .1);
+          long = rw same at (leb-true (wordsOf h) (length t) l);
+          stores = sym list ∙ ap formatStores same;
+        })
+        (λ l. absurd (refused-not (rw (u, l) at e))))

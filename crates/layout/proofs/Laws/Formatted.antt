@@ -21,8 +21,8 @@ use Rattle.entries.specs.Check.{faultOf}
 use Rattle.entries.proofs.Laws.CheckFacts.{facts-accepted}
 use Rattle.layout.specs.Format.{firstMark, firstEntries, formatStores}
 use Rattle.layout.specs.Formatted.{freshOn, Formatted, FormattedWith, GoOnWorking}
-use Rattle.layout.proofs.Laws.Format.{format-carried}
-use Rattle.layout.proofs.Laws.FormatTheorem.{formattedEntry, FormattedView, formatted-sound, list-shows, list-word, format-accepted}
+use Rattle.layout.proofs.Laws.Format.{format-carried, format-accepted}
+use Rattle.layout.proofs.Laws.FormattedView.{formattedEntry, FormattedView, formatted-sound, list-shows, list-word}
 
 -- ---- a formatted table
 

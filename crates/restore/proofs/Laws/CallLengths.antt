@@ -14,7 +14,7 @@ use Rattle.table.proofs.Laws.Stores.{runs-length}
 use Rattle.table.specs.View.{Entry, View, current, marksTo}
 use Rattle.table.specs.Answers.{carry}
 use Rattle.layout.specs.Format.{firstEntry, firstMark, firstEntries, formatStores, formatOf}
-use Rattle.layout.proofs.Laws.FormatTheorem.{format-accepted}
+use Rattle.layout.proofs.Laws.Format.{format-accepted}
 use Rattle.homes.specs.declared.places.Place.{Place}
 use Rattle.homes.specs.declared.places.Place.the-variants.{Current, Kept}
 use Rattle.homes.specs.declared.home.Arrival.{Arrival}

@@ -13,10 +13,10 @@ use Rattle.table.specs.Stores.{Store, after}
 use Rattle.table.specs.Answers.{Plan, refuse, nothingLeft, carry}
 use Rattle.layout.specs.Format.{formatOf}
 use Rattle.layout.specs.Formatted.{Formatted}
-use Rattle.layout.proofs.Laws.FormatTheorem.{format-accepted}
+use Rattle.layout.proofs.Laws.Format.{format-accepted}
 use Rattle.layout.proofs.Laws.Formatted.{go-on-working}
 use Rattle.homes.proofs.Laws.Serves.{Serves, same-geometry}
-use Rattle.homes.proofs.Laws.FormatServes.{formatted-serves}
+use Rattle.homes.proofs.Laws.FormattedServes.{formatted-serves}
 use Rattle.calls.proofs.Laws.WriteTheorem.{carried as carriedWrite, admits}
 use Rattle.calls.proofs.Laws.WriteServes.{written, write-serves}
 use Rattle.calls.specs.Write.{writeOf}

@@ -14,7 +14,7 @@ use Rattle.table.specs.Answers.{Plan, refuse, nothingLeft, carry, tableOf}
 use Rattle.table.proofs.Laws.Answers.{refused-not}
 use Rattle.entries.proofs.Laws.CheckFacts.{sizes-facts, accepted-facts}
 use Rattle.layout.specs.Format.{formatOf}
-use Rattle.layout.proofs.Laws.FormatTheorem.{format-accepted}
+use Rattle.layout.proofs.Laws.Format.{format-accepted}
 use Rattle.homes.specs.declared.admission.Admission.{Admission}
 use Rattle.homes.specs.Admission.{planBy}
 use Rattle.homes.proofs.Laws.Plans.{plan-acted, acted-carried}

@@ -1,5 +1,5 @@
--- What Format's list leaves: whatever the slice held before, a table that is sound, for every allowed geometry. And
--- what an accepted Format is.
+-- What a formatted table shows: Format's list leaves it, whatever the slice held before, and it is sound, for every
+-- allowed geometry.
 use mathlib.Core.Path.{_≡_, refl, sym, ap, _∙_}
 use mathlib.Core.Logic.{_≢_}
 use mathlib.Core.Bool.{true, not}
@@ -8,21 +8,18 @@ use Prim.Native.Nat.{ℕ, zero, suc, _+_, _-_, _*_, _/_, _%_, _<_, _≤_}
 use native.Mathlib.Omega.{arith}
 use native.Mathlib.Nat.{mod-lt, add-zero}
 use lib.Arith.{digits-div, digits-mod, digits-lt}
-use lib.Dec.{eqb, leb}
+use lib.Dec.{eqb}
 use lib.ListN.{length, getD, set}
 use lib.Seq.{getD-set-same}
-use borrow.Author.Tests.{eq-eqb, leb-true}
-use Rattle.counting.proofs.Laws.Tests.{and-both, and-no, by-cases}
+use borrow.Author.Tests.{eq-eqb}
+use Rattle.counting.proofs.Laws.Tests.{and-both, and-no}
 use Rattle.counting.specs.Counting.{sum}
 use Rattle.counting.proofs.Laws.Counting.{sum-ext, Only}
 use Rattle.table.specs.declared.geometry.Geometry.{Geometry}
-use Rattle.table.specs.declared.geometry.Made.{Made}
-use Rattle.table.specs.declared.geometry.Made.the-variants.{Allowed, NotAllowed}
 use Rattle.table.specs.Words.{sharedCK1, sharedCK2, stateForm, stateWord, markWord, markForm, phaseOf, numberOf, sizeWord}
 use Rattle.table.proofs.Laws.Words.{current-state, kept-state}
 use Rattle.table.proofs.Laws.Forms.{alone-form}
-use Rattle.table.specs.Geometry.{allowed, geometryOf, wordsOf}
-use Rattle.table.proofs.Laws.Geometry.{made-allowed}
+use Rattle.table.specs.Geometry.{wordsOf}
 use Rattle.table.specs.Stores.{Store, sizeStore, addressOf, wordOf, after, runs}
 use Rattle.table.proofs.Laws.Stores.{All, none, more, all-then, all-runs, after-off}
 use Rattle.table.specs.View.{Entry, View, view, live, current, kept}
@@ -34,9 +31,7 @@ use Rattle.entries.proofs.Laws.Frames.{frames-state}
 use Rattle.entries.specs.Tally.{has}
 use Rattle.entries.proofs.Laws.Kinds.{Clean, clean, has-code, copy-code, cleanCode}
 use Rattle.entries.proofs.Laws.SoundFacts.{SoundTable}
-use Rattle.table.specs.Answers.{carry}
-use Rattle.table.proofs.Laws.Answers.{refused-not}
-use Rattle.layout.specs.Format.{firstPlace, firstEntry, firstMark, firstEntries, formatStores, unusableFrames, formatMade, formatOf}
+use Rattle.layout.specs.Format.{firstPlace, firstEntry, firstMark, firstEntries, formatStores}
 use Rattle.layout.specs.Formatted.{freshOn}
 use Rattle.layout.proofs.Laws.FirstPlaces.{first-on, second-on, first-only, second-only, place-clean, place-small, holding, held-fits}
 
@@ -163,35 +158,3 @@ module _ (t : List ℕ) (g : Geometry) (long : wordsOf g ≤ length t) where
   pub list-word : getD (freshOn g t) 0 0 ≡ sizeWord (g .nodes) (g .items) (g .frames)
   unfolding formatStores
   list-word = first-word g (length (formatStores g)) t (format-off g) (omega arith) (omega arith)
-
--- ---- an accepted Format: an allowed geometry with the items asked for, a table long enough for it, and these stores
-
-pub record FormatAccepted (t : List ℕ) (m : ℕ) (g : Geometry) (ss : List Store) : Type 0 where
-  pub fair : allowed (g .nodes) (g .items) (g .frames) ≡ true
-  pub items : g .items ≡ m
-  pub long : wordsOf g ≤ length t
-  pub stores : ss ≡ formatStores g
-
-pub format-accepted :
-    (t : List ℕ) (n m f : ℕ) {g : Geometry} {x : ℕ} {ss : List Store} → formatOf t n m f ≡ carry g x ss
-    → FormatAccepted t m g ss
-unfolding formatMade
-format-accepted t n m f {g} {x} {ss} e = from-made (geometryOf n m f) refl e
-  where
-    from-made : (a : Made) → a ≡ geometryOf n m f → formatMade t a ≡ carry g x ss → FormatAccepted t m g ss
-    from-made NotAllowed p e = absurd (refused-not e)
-    from-made (Allowed h) p e = by-cases (unusableFrames h)
-        (λ u. absurd (refused-not (rw u at e)))
-        (λ u. by-cases (leb (wordsOf h) (length t))
-        (λ l. let e′ : carry h 0 (formatStores h) ≡ carry g x ss = rw (u, l) at e in
-        let same : h ≡ g = cc in
-        let list : formatStores h ≡ ss = cc in
-        let mk = made-allowed n m f h (sym p) in
-        let fair : allowed (h .nodes) (h .items) (h .frames) ≡ true = rw (mk .1) (mk .0) in
-        record {
-          fair = rw same at fair;
-          items = ap (λ g. g .items) (sym same ∙ mk .1);
-          long = rw same at (leb-true (wordsOf h) (length t) l);
-          stores = sym list ∙ ap formatStores same;
-        })
-        (λ l. absurd (refused-not (rw (u, l) at e))))
