@@ -6,7 +6,7 @@ use native.Mathlib.Omega.{arith}
 use lib.Dec.{eqb, leb, ltb}
 use borrow.Author.Tests.{eq-eqb, ne-eqb, ltb-true, lt-ltb, leb-true}
 use Rattle.counting.proofs.Laws.Tests.{both, by-cases, other-holds}
-use Rattle.counting.proofs.Laws.Counting.{sum-one-less, sum-each}
+use Rattle.counting.proofs.Laws.Crowded.{sum-most, sum-fewer}
 use Rattle.table.specs.declared.geometry.Geometry.{Geometry}
 use Rattle.table.specs.Words.{currentOf, keptOf, stateWord}
 use Rattle.table.proofs.Laws.Words.{current-state, kept-state}
@@ -51,11 +51,18 @@ module _ (g : Geometry) (v : View) (n s b : ℕ) {set : ℕ} (h : set ≡ setOf 
   unfolding framesAt
   frames-elsewhere e = rw (← h, ne-eqb set s e)
 
--- frames are ample and a place of item b's entry is Invalid: not all are in use
-module _ (g : Geometry) (v : View) (n b : ℕ) where
-  frames-at-two : (s i : ℕ) → framesAt g v n s i ≤ framesIn (v .entry n i .state)
+module _ (g : Geometry) (v : View) (n : ℕ) where
+  frames-within : (s b : ℕ) → framesAt g v n s b ≤ framesIn (v .entry n b .state)
   unfolding framesAt
-  frames-at-two s i = by-cases (eqb (setOf g i) s) (λ e. rw e (omega arith)) (λ e. rw e (omega arith))
+  frames-within s b = by-cases (eqb (setOf g b) s) (λ e. rw e (omega arith)) (λ e. rw e (omega arith))
+
+  frames-at-two : (s b : ℕ) → framesAt g v n s b ≤ 2
+  frames-at-two s b = omega (arith, frames-within s b, frames-two (v .entry n b .state))
+
+  -- a node has two places for each item, and uses no more frames
+  pub used-most : (s : ℕ) → used g v n s ≤ 2 * g .items
+  unfolding used
+  used-most s = omega (arith, sum-most (g .items) 2 (framesAt g v n s) (λ b l. frames-at-two s b))
 
   half-one : (w : ℕ) → halfFree w ≡ true → framesIn w ≤ 1
   unfolding halfFree framesIn
@@ -63,15 +70,15 @@ module _ (g : Geometry) (v : View) (n b : ℕ) where
       (λ e. rw e (omega (arith, frame-le (keptOf w))))
       (λ e. rw (other-holds (eqb (currentOf w) 0) h e) (omega (arith, frame-le (currentOf w))))
 
-  pub ample-free : ampleFor g b ≡ true → halfFree (v .entry n b .state) ≡ true → frameFree g v n b ≡ true
+  -- frames are ample and a place of item b's entry is Invalid: not all are in use
+  pub ample-free : (b : ℕ) → ampleFor g b ≡ true → halfFree (v .entry n b .state) ≡ true → frameFree g v n b ≡ true
   unfolding ampleFor used
-  ample-free a h =
+  ample-free b a h =
       let here = both (ltb b (g .items)) a in
-      let twos = sum-each 2 (g .items) in
-      let less = sum-one-less (g .items) (framesAt g v n (setOf g b)) (λ i. 2) b 1 (ltb-true b (g .items) (here .0))
-      (λ i l e. omega (arith, frames-at-two (setOf g b) i, frames-two (v .entry n i .state)))
-      (omega (arith, frames-at-two (setOf g b) b, half-one (v .entry n b .state) h)) in
-      lt-ltb _ (setFrames g) (omega (arith, less, twos, leb-true (2 * g .items) (setFrames g) (here .1)))
+      let s = setOf g b in
+      let fewer = sum-fewer (g .items) 2 (framesAt g v n s) b (ltb-true b (g .items) (here .0)) (λ i l. frames-at-two s i)
+      (omega (arith, frames-within s b, half-one (v .entry n b .state) h)) in
+      lt-ltb _ (setFrames g) (omega (arith, fewer, leb-true (2 * g .items) (setFrames g) (here .1)))
 
 -- the ways of the code
 pub ample-read : (g : Geometry) (b : ℕ) {f : ℕ} → f ≡ setFrames g → (ltb b (g .items) && leb (2 * g .items) f) ≡ ampleFor g b

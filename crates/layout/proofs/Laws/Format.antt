@@ -1,5 +1,5 @@
 -- The laws of `specs/Format.antt`.
-use Prim.Native.Nat.{ℕ, _≤_}
+use Prim.Native.Nat.{ℕ, _*_, _≤_}
 use mathlib.Core.Path.{_≡_, refl, sym, ap, _∙_}
 use mathlib.Core.Bool.{true, false}
 use mathlib.Core.List.{List, [], _∷_, map}
@@ -57,11 +57,13 @@ module _ (t : List ℕ) (nodes items frames : ℕ) {made : Made} (e : made ≡ g
       unfolding formatMade
       format-carried l = rw (← e, h, u, le-leb (wordsOf g) (length t) (omega (arith, w, ltb-false (length t) words l)))
 
--- ---- an accepted Format: an allowed geometry with the items asked for, a table long enough for it, and these stores
+-- ---- an accepted Format: an allowed geometry with the items asked for and frames that can be used, a table long enough
+-- for it, and these stores
 
 pub record FormatAccepted (t : List ℕ) (m : ℕ) (g : Geometry) (ss : List Store) : Type 0 where
   pub fair : allowed (g .nodes) (g .items) (g .frames) ≡ true
   pub items : g .items ≡ m
+  pub usable : g .frames ≤ 2 * g .items
   pub long : wordsOf g ≤ length t
   pub stores : ss ≡ formatStores g
 
@@ -81,9 +83,11 @@ format-accepted t n m f {g} {x} {ss} e = from-made (geometryOf n m f) refl e
         let list : formatStores h ≡ ss = cc in
         let mk = made-allowed n m f h (sym p) in
         let fair : allowed (h .nodes) (h .items) (h .frames) ≡ true = rw (mk .1) (mk .0) in
+        let few : h .frames ≤ 2 * h .items = omega (arith, ltb-false (2 * h .items) (h .frames) u) in
         record {
           fair = rw same at fair;
           items = ap (λ g. g .items) (sym same ∙ mk .1);
+          usable = rw same at few;
           long = rw same at (leb-true (wordsOf h) (length t) l);
           stores = sym list ∙ ap formatStores same;
         })

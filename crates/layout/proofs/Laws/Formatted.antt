@@ -18,6 +18,7 @@ use Rattle.table.proofs.Laws.View.{mark-read, entry-read}
 use Rattle.table.proofs.Laws.Pass.{grid-within}
 use Rattle.entries.specs.declared.check.Checked.the-variants.{Passed}
 use Rattle.entries.specs.Check.{faultOf}
+use Rattle.entries.proofs.Laws.Frames.{used-most}
 use Rattle.entries.proofs.Laws.CheckFacts.{facts-accepted}
 use Rattle.layout.specs.Format.{firstMark, firstEntries, formatStores}
 use Rattle.layout.specs.Formatted.{freshOn, Formatted, FormattedWith, GoOnWorking}
@@ -85,9 +86,10 @@ go-on-working = record {
   already = already-formatted;
   by-format = λ t n m f g x ss e.
       let a = format-accepted t n m f e in
-      rw (a .stores) (already-formatted t g (a .fair) (a .long));
+      (rw (a .stores) (already-formatted t g (a .fair) (a .long)), a .usable);
   again = λ t f h.
       let g = f .geometry in
       format-carried t _ _ _ refl (allowed-made _ _ _ (f .fair)) (le-ltb (2 * g .items) (g .frames) h) refl
       (le-ltb (length t) (wordsOf g) (f .long));
+  never-used = λ t g. used-most g (view g t);
 }

@@ -40,7 +40,7 @@ pub good-format :
     (t : List ℕ) (n m f : ℕ) {g : Geometry} {x : ℕ} {ss : List Store} → formatOf t n m f ≡ carry g x ss
     → Good (after g (length ss) ss t) (zeros m) 0
 good-format t n m f {g} {x} {ss} e =
-    let w = go-on-working .by-format t n m f g x ss e in
+    let w = go-on-working .by-format t n m f g x ss e .0 in
     let a = format-accepted t n m f e in
     let items : w .formatted .geometry .items ≡ m = ap (λ g. g .items) (w .geometry-is) ∙ a .items in
     rw items at (good-begins _ (w .formatted))
