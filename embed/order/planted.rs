@@ -7,6 +7,7 @@
 #[allow(dead_code)]
 mod calls;
 #[path = "../differential/reference.rs"]
+#[allow(dead_code)]
 mod reference;
 
 use std::arch::x86_64::{__m128i, _mm_set_epi64x, _mm_storeu_si128};
