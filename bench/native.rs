@@ -147,10 +147,12 @@ struct Geometry {
 }
 
 impl Geometry {
+    /// Besides the ranges: a frame for every place of a node, or frames for four copies of every item while a node is
+    /// dead.
     #[inline]
     fn new(nodes: u64, items: u64, frames: u64) -> Option<Geometry> {
         let within = nodes.wrapping_sub(3) < 14 && items.wrapping_sub(1) < 256 && frames.wrapping_sub(1) < 512;
-        if !within || (nodes - 2) * frames < 2 * items - 1 {
+        if !within || (frames != 2 * items && (nodes - 2) * frames < 4 * items - 1) {
             return None;
         }
         Some(Geometry { nodes: nodes as usize, items: items as usize, frames: frames as usize })
@@ -476,7 +478,7 @@ fn outcome(result: Result<Outcome, u64>) -> Outcome {
 // The calls.
 
 pub fn words(nodes: u64, items: u64) -> u64 {
-    Geometry::new(nodes, items, 512).map_or(0, |geometry| geometry.words() as u64)
+    Geometry::new(nodes, items, items.saturating_mul(2)).map_or(0, |geometry| geometry.words() as u64)
 }
 
 pub fn check(table: &[u64]) -> u64 {

@@ -96,11 +96,19 @@
  * WHAT A TABLE HOLDS
  *
  * Geometry: N nodes (3 to 16), M items (1 to 256), F frames per node (1 to 512), allowed if also
- * (N - 2) * F >= 2 * M - 1. Nodes and items are counted from 0. A table has
+ * F = 2 * M or (N - 2) * F >= 4 * M - 1. Nodes and items are counted from 0. A table has
  * 1 + N + 3 * N * M words; a longer slice is fine, the words past these are never touched.
+ *
  * F = 2 * M is allowed for every N and M and gives every place of a node a frame of its own: it is the
- * most that linkspan_format takes. A table that an earlier library formatted with more goes on working;
- * its frames beyond 2 * M stay unused, and when you format it anew, ask for 2 * M at most.
+ * most that linkspan_format takes, and with 3 or 4 nodes the only number. From 5 nodes on fewer will
+ * do: 4, 5, 8 for 5 nodes and 3, 4, 6 items, say. They hold four copies of every item while a save is
+ * made, so that no save is refused for want of frames while at most one node is dead.
+ *
+ * Tables that an earlier library formatted: with more than 2 * M frames they go on working, if their
+ * geometry is allowed; the frames beyond 2 * M stay unused, and when you format anew, ask for 2 * M at
+ * most. With a geometry that is not allowed here, too few frames above all, every call answers 3 and
+ * leaves the table as it is: read its values with that library, and write them to a table formatted
+ * with frames enough.
  *
  * Each node has an entry for each item, with two places: a current place and a kept place. A copy in
  * a place takes up one of the node's F frames. Current copies have the item's present value; one
@@ -148,7 +156,8 @@ enum {
     LINKSPAN_NO_CHECKPOINT_OPEN = 8,  /* no checkpoint is open: open one first */
     LINKSPAN_NO_FRAME = 9,            /* the node needs a frame and has none free: evict something */
     LINKSPAN_PLACE_INVALID = 10,      /* there is no copy in that place */
-    LINKSPAN_NO_HOME = 11,            /* no other live node can take the copy */
+    LINKSPAN_NO_HOME = 11,            /* no other live node can take the copy; in create only where
+                                         two or more nodes are dead and F is under 2 * M */
     LINKSPAN_NOT_ALL_CREATED = 12,    /* a dirty item has not been created yet */
     LINKSPAN_LAST_NUMBER = 13,        /* the table has had its 2^32 - 1 saves */
     LINKSPAN_TOO_FEW_SURVIVORS = 14,  /* fewer than two survivors, or (k - 1) * F < 2 * M - 1 for
@@ -187,7 +196,8 @@ uint64_t linkspan_stretch(const uint64_t *table, size_t len, uint64_t node,
 /*
  * Makes a new table in the slice, whatever it held: all nodes live, every value and saved value 0,
  * no checkpoint open. Words past the table stay as they are.
- * 0; 3 the geometry is not allowed; 20 more frames than 2 * items; 1 the slice is too short for it.
+ * 0; 3 the geometry is not allowed (frames other than 2 * items, and too few for four copies of every
+ * item); 20 more frames than 2 * items; 1 the slice is too short for it.
  */
 uint64_t linkspan_format(uint64_t *table, size_t len, uint64_t nodes, uint64_t items, uint64_t frames,
                          uint64_t limit, uint64_t *value, uint64_t *stores);
@@ -221,6 +231,10 @@ uint64_t linkspan_evict(uint64_t *table, size_t len, uint64_t node, uint64_t ite
 /*
  * A save, in three steps. While a checkpoint is open, read, write and evict answer 7.
  *
+ * While at most one node is dead it always goes through: on a table without an open checkpoint
+ * linkspan_open answers 0, unless that is 13; linkspan_create answers 0 once for each item that was
+ * written since the last save, and then 17; linkspan_commit answers 0.
+ *
  * linkspan_open opens a checkpoint.
  * 0; 1 empty; 3; 1 too short; 2; 7; 13.
  */
@@ -229,8 +243,9 @@ uint64_t linkspan_open(uint64_t *table, size_t len,
 
 /*
  * linkspan_create makes the two new recovery copies of ONE item, the lowest dirty one that has none
- * yet. Call it until it answers 17. If it answers 11, no other live node has room for the second
- * copy: the checkpoint can then only be abandoned.
+ * yet. Call it until it answers 17. It answers 11 only where two or more nodes are dead and F is under
+ * 2 * M: no other live node has room for the second copy, and this save cannot be completed. Abandon
+ * it; with copies evicted elsewhere a later one may find room.
  * 0; 17 nothing left; 1 empty; 3; 1 too short; 2; 8; 11.
  */
 uint64_t linkspan_create(uint64_t *table, size_t len,

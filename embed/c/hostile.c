@@ -7,7 +7,8 @@
  *   - on a refusal, and on 17, table and scratch are word for word as before, results are 0;
  *   - otherwise no more stores than the limit and no more words changed than stores, none of them
  *     past the table's own words; a whole call leaves a sound table; a recovery leaves the scratch
- *     as promised; a commit is as long as it was told to be.
+ *     as promised; a commit is as long as it was told to be;
+ *   - a create finds a home while at most one node is dead, or a node has a frame for every place.
  *
  * Usage: hostile [CALLS [SEED]]
  */
@@ -109,18 +110,30 @@ static uint64_t first_word(struct geometry geometry)
     return geometry.nodes << 55 | geometry.items << 46 | geometry.frames << 36;
 }
 
+/* Mostly few frames; allowed are as many as a node has places, and all from `enough` to 512. */
 static struct geometry small_geometry(void)
 {
-    struct geometry geometry = {3 + below(4), 1 + below(4), 0};
+    struct geometry geometry = {3 + below(5), 1 + below(4), 0};
     if (below(40) == 0) {
         geometry.nodes = 3 + below(14);
         geometry.items = 1 + below(256);
     }
-    uint64_t fewest = (2 * geometry.items - 1 + geometry.nodes - 3) / (geometry.nodes - 2);
-    geometry.frames = fewest + below(3);
-    if (geometry.frames > 512)
-        geometry.frames = 512;
+    uint64_t enough = (4 * geometry.items - 1 + geometry.nodes - 3) / (geometry.nodes - 2);
+    uint64_t places = 2 * geometry.items;
+    geometry.frames = (enough < places ? enough : places) + below(3);
+    if (geometry.frames < enough || geometry.frames > 512)
+        geometry.frames = places;
     return geometry;
+}
+
+/* At most one node is dead, or a node has a frame for every place: a create finds a home. */
+static int has_home(struct slice table)
+{
+    struct geometry geometry = geometry_of(table);
+    uint64_t dead = 0;
+    for (uint64_t node = 0; node < geometry.nodes && 1 + node < table.length; node++)
+        dead += table.words[1 + node] == 0;
+    return dead < 2 || geometry.frames >= 2 * geometry.items;
 }
 
 /* Words without any order. */
@@ -134,6 +147,18 @@ static struct slice noise(void)
         table.words[0] = first_word(geometry);
     }
     return table;
+}
+
+/* All nodes but three are lost, those write an item each, and a checkpoint is opened: a create may find no home. */
+static void drain(struct slice table, struct geometry geometry)
+{
+    uint64_t scratch[256 + 16], value, stores;
+    for (uint64_t lost = geometry.nodes - 1; lost > 2; lost--)
+        linkspan_recover(table.words, table.length, 0, lost, scratch, 256 + 16, LINKSPAN_WHOLE, &value, &stores);
+    for (uint64_t node = 0; node < 3; node++)
+        linkspan_write(table.words, table.length, node, below(geometry.items), below(4), LINKSPAN_WHOLE, &value,
+                       &stores);
+    linkspan_open(table.words, table.length, LINKSPAN_WHOLE, &value, &stores);
 }
 
 /* A table that a run of calls leaves, some of them cut off; its answers are of no interest here. */
@@ -150,6 +175,10 @@ static struct slice reached(void)
                     geometry.frames < places ? geometry.frames : places, LINKSPAN_WHOLE, &value, &stores);
     if (geometry.frames > places) /* as an earlier library formatted it */
         table.words[0] = first_word(geometry);
+    if (below(8) == 0) {
+        drain(table, geometry);
+        return table;
+    }
     while (calls--) {
         uint64_t node = below(geometry.nodes), item = below(geometry.items);
         uint64_t limit = below(20) ? LINKSPAN_WHOLE : below(5);
@@ -391,6 +420,8 @@ static void judge(const struct trial *trial)
     }
     if ((trial->call == EVICT || trial->call == RECOVER) && (trial->choice > 1) != (trial->answer == 18))
         fault(trial->call, trial->answer, "18 is not given exactly where the choice is above 1");
+    if (trial->call == CREATE && trial->answer == LINKSPAN_NO_HOME && has_home(trial->table_before))
+        fault(trial->call, trial->answer, "there is a home");
     met[trial->call][trial->answer]++;
     if (trial->answer != 0)
         judge_refused(trial);

@@ -1,8 +1,8 @@
 /*
  * Holds the layout of linkspan.h to the library: for every number of nodes and items against
  * linkspan_words, linkspan_stretch and the words that linkspan_format stores; for every number of
- * frames against word 0; for every number of items against the most frames that linkspan_format takes;
- * and every phase and code of a place against the words that calls leave.
+ * frames against word 0, and with every number of nodes and items against the answers of linkspan_format
+ * and of the calls on a table; and every phase and code of a place against the words that calls leave.
  */
 #include "../linkspan.h"
 
@@ -23,9 +23,23 @@ static void same(const char *what, uint64_t found, uint64_t expected)
         printf("%s: %" PRIu64 ", not %" PRIu64 "\n", what, found, expected);
 }
 
+/* From so many frames on, up to the most, all are allowed; besides, as many as a node has places are. */
+static uint64_t enough_frames(uint64_t nodes, uint64_t items)
+{
+    return (4 * items - 1 + nodes - 3) / (nodes - 2);
+}
+
+static int are_allowed(uint64_t nodes, uint64_t items, uint64_t frames)
+{
+    return frames == 2 * items || (enough_frames(nodes, items) <= frames && frames <= MOST_FRAMES);
+}
+
 static uint64_t fewest_frames(uint64_t nodes, uint64_t items)
 {
-    return (2 * items - 1 + nodes - 3) / (nodes - 2);
+    uint64_t frames = 1;
+    while (!are_allowed(nodes, items, frames))
+        frames++;
+    return frames;
 }
 
 static void format(uint64_t nodes, uint64_t items, uint64_t frames)
@@ -99,22 +113,42 @@ static void formatted_words(uint64_t nodes, uint64_t items)
     }
 }
 
-/* As many frames as a node has places are taken, and one more is not. */
-static void most_frames(uint64_t nodes, uint64_t items)
+/* A format that is lent no words: the frames are judged first. */
+static void frames_to_format(uint64_t nodes, uint64_t items, uint64_t frames)
 {
-    uint64_t value, stores, places = 2 * items, refusal = LINKSPAN_TOO_MANY_FRAMES;
-    if (places == MOST_FRAMES)
-        refusal = LINKSPAN_NO_GEOMETRY;
-    format(nodes, items, places);
-    same("a frame too many", linkspan_format(table, MOST_WORDS, nodes, items, places + 1, WHOLE, &value, &stores),
-         refusal);
+    uint64_t value, stores, expected = LINKSPAN_TOO_SHORT;
+    if (!are_allowed(nodes, items, frames))
+        expected = LINKSPAN_NO_GEOMETRY;
+    else if (frames > 2 * items)
+        expected = LINKSPAN_TOO_MANY_FRAMES;
+    same("format without words", linkspan_format(NULL, 0, nodes, items, frames, WHOLE, &value, &stores), expected);
+}
+
+/* A table of word 0 alone: the frames are judged before its length, also where a node has fewer places. */
+static void frames_in_table(uint64_t nodes, uint64_t items, uint64_t frames)
+{
+    uint64_t word = nodes << 55 | items << 46 | frames << 36, scratch[1], value, stores;
+    uint64_t expected = are_allowed(nodes, items, frames) ? LINKSPAN_TOO_SHORT : LINKSPAN_NO_GEOMETRY;
+    same("check of word 0", linkspan_check(&word, 1), expected);
+    same("stretch of word 0", linkspan_stretch(&word, 1, 0, &value, &stores), expected);
+    same("create on word 0", linkspan_create(&word, 1, WHOLE, &value, &stores), expected);
+    same("recover of word 0", linkspan_recover(&word, 1, 1, 0, scratch, 1, WHOLE, &value, &stores), expected);
+}
+
+static void every_number_of_frames(uint64_t nodes, uint64_t items)
+{
+    for (uint64_t frames = 0; frames <= MOST_FRAMES + 1; frames++) {
+        frames_to_format(nodes, items, frames);
+        frames_in_table(nodes, items, frames);
+    }
 }
 
 static void every_geometry(void)
 {
     for (uint64_t nodes = 3; nodes <= MOST_NODES; nodes++)
         for (uint64_t items = 1; items <= MOST_ITEMS; items++) {
-            most_frames(nodes, items);
+            every_number_of_frames(nodes, items);
+            format(nodes, items, 2 * items);
             format(nodes, items, fewest_frames(nodes, items));
             geometry_in_word_0(nodes, items, fewest_frames(nodes, items));
             rows(nodes, items);
@@ -123,8 +157,8 @@ static void every_geometry(void)
         }
     for (uint64_t frames = 1; frames <= MOST_FRAMES; frames++) {
         uint64_t items = (frames + 1) / 2; /* the fewest whose places are so many */
-        format(3, items, frames);
-        geometry_in_word_0(3, items, frames);
+        format(MOST_NODES, items, frames);
+        geometry_in_word_0(MOST_NODES, items, frames);
     }
 }
 

@@ -70,6 +70,7 @@ fn formatting(random: &mut Random) -> Call {
     let geometry = match random.below(4) {
         0 => tables::allowed_geometry(random).usable(),
         1 => tables::allowed_geometry(random),
+        2 => tables::edge_geometry(random),
         _ => tables::any_geometry(random),
     };
     Call::Format { nodes: geometry.nodes, items: geometry.items, frames: geometry.frames }

@@ -13,6 +13,7 @@ mod on_library;
 mod random;
 mod reference;
 mod runs;
+mod saves;
 mod tables;
 mod twins;
 
@@ -20,7 +21,7 @@ mod twins;
 #[allow(dead_code)]
 mod stand_in;
 
-use calls::{Call, Met, ANSWERS, MOST_ANSWER};
+use calls::{Call, Met, Said, ANSWERS, MOST_ANSWER};
 use runs::{Runs, Subject};
 use tables::Geometry;
 use twins::{Compared, Twins};
@@ -39,6 +40,8 @@ struct Tally {
     forward: u64,
     /// Commits carried out of which was told how long they would be.
     foretold: u64,
+    /// Saves carried out whole, of tables on which no save may be refused.
+    saves: u64,
     met: Met,
 }
 
@@ -49,6 +52,8 @@ struct Comparison<'a> {
     twins: Twins,
     tally: &'a mut Tally,
     left: u64,
+    /// What the library said last.
+    said: Said,
 }
 
 impl Subject for Comparison<'_> {
@@ -65,11 +70,28 @@ impl Subject for Comparison<'_> {
         let compared = self.twins.call(call, limit);
         self.note(call, limit, &entry, &compared);
         self.left = self.left.saturating_sub(1);
-        let right = compared.same && compared.as_told != Some(false);
+        self.said = compared.library;
+        let homeless = matches!(call, Call::Create) && saves::lacks_home(self.said.0, &entry);
+        let right = compared.same && compared.as_told != Some(false) && !homeless;
         if !right {
             self.report(call, limit, &entry, &compared);
         }
         right
+    }
+
+    fn said(&self) -> Said {
+        self.said
+    }
+
+    fn fault(&mut self, what: &str) {
+        self.tally.differences += 1;
+        if self.tally.differences <= SHOWN {
+            println!("fault in seed {}, run {}: {what}", self.seed, self.run);
+        }
+    }
+
+    fn saved(&mut self) {
+        self.tally.saves += 1;
     }
 }
 
@@ -96,6 +118,9 @@ impl Comparison<'_> {
         println!("difference in seed {}, run {}: {call:?}, limit {limit}", self.seed, self.run);
         println!("  library   (answer, value, stores): {:?}", compared.library);
         println!("  reference (answer, value, stores): {:?}", compared.reference);
+        if matches!(call, Call::Create) && saves::lacks_home(compared.library.0, entry) {
+            println!("  a create without a home, though there is room for one");
+        }
         if compared.as_told == Some(false) {
             println!("  another commit than `commit_length` told of");
         }
@@ -111,7 +136,7 @@ impl Comparison<'_> {
 
 fn run_seed(seed: u64, calls: u64, tally: &mut Tally) {
     let mut runs = Runs::new(seed);
-    let mut comparison = Comparison { seed, run: 0, twins: Twins::new(&[]), tally, left: calls };
+    let mut comparison = Comparison { seed, run: 0, twins: Twins::new(&[]), tally, left: calls, said: (0, 0, 0) };
     runs.rare(&mut comparison);
     while comparison.left > 0 {
         comparison.run += 1;
@@ -157,7 +182,8 @@ fn arguments() -> (u64, Vec<u64>) {
 
 fn main() {
     let (calls, seeds) = arguments();
-    let mut tally = Tally { calls: 0, differences: 0, at_limit: 0, forward: 0, foretold: 0, met: Met::default() };
+    let mut tally =
+        Tally { calls: 0, differences: 0, at_limit: 0, forward: 0, foretold: 0, saves: 0, met: Met::default() };
     let start = std::time::Instant::now();
     for &seed in &seeds {
         run_seed(seed, calls.div_ceil(seeds.len() as u64), &mut tally);
@@ -166,13 +192,14 @@ fn main() {
     print_met(&tally);
     println!(
         "{} calls, {} made just as many stores as their limit, {} recoveries rolled forward, {} commits of a length that \
-         was told before, seeds {seeds:?}, {:.1} s: {} differences",
+         was told before, {} whole saves, seeds {seeds:?}, {:.1} s: {} differences",
         tally.calls,
         tally.at_limit,
         tally.forward,
         tally.foretold,
+        tally.saves,
         start.elapsed().as_secs_f64(),
         tally.differences
     );
-    std::process::exit((tally.differences > 0 || tally.foretold == 0) as i32);
+    std::process::exit((tally.differences > 0 || tally.foretold == 0 || tally.saves == 0) as i32);
 }

@@ -197,9 +197,12 @@ struct Geometry {
 }
 
 impl Geometry {
+    /// Within the ranges, and with a frame for every place of a node, or enough frames for four copies of every item
+    /// where one node is dead.
     fn new(nodes: u64, items: u64, frames: u64) -> Option<Geometry> {
         let within = (3..=16).contains(&nodes) && (1..=256).contains(&items) && (1..=512).contains(&frames);
-        if !within || (nodes - 2) * frames < 2 * items - 1 {
+        let reserved = || frames == 2 * items || (nodes - 2) * frames >= 4 * items - 1;
+        if !within || !reserved() {
             return None;
         }
         Some(Geometry { nodes: nodes as usize, items: items as usize, frames: frames as usize })

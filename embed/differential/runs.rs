@@ -1,9 +1,10 @@
-//! Random runs of calls: long ones, strikes, damaged tables, scattered copies, words without order.
+//! Random runs of calls: long ones, strikes, saves, damaged tables, scattered copies, words without order.
 
-use crate::calls::Call;
+use crate::calls::{Call, Said};
 use crate::choices::{self, WHOLE};
 use crate::random::Random;
 use crate::reference;
+use crate::saves::{Save, NOTHING_LEFT};
 use crate::tables::{self, Geometry};
 
 /// Nodes and items: the most of both, and of each with few of the other.
@@ -21,12 +22,34 @@ pub trait Subject {
 
     /// Makes the call; true if it did what it should.
     fn call(&mut self, call: Call, limit: u64) -> bool;
+
+    /// What the last call said.
+    fn said(&self) -> Said;
+
+    /// Notes what is wrong with what calls did together.
+    fn fault(&mut self, what: &str);
+
+    /// Notes a save that was carried out whole.
+    fn saved(&mut self);
 }
 
 /// Makes the call. Before a commit, how long it will be is asked for.
 fn make(subject: &mut impl Subject, call: Call, limit: u64) -> bool {
     let asked = !matches!(call, Call::Commit) || subject.call(Call::CommitLength, limit);
     asked && subject.call(call, limit)
+}
+
+/// Makes the call whole; it must give this answer.
+fn answered(subject: &mut impl Subject, call: Call, answer: u64) -> bool {
+    if !subject.call(call, WHOLE) {
+        return false;
+    }
+    let said = subject.said();
+    let right = said.0 == answer;
+    if !right {
+        subject.fault(&format!("{call:?} said {said:?} in a save that has {answer} there"));
+    }
+    right
 }
 
 pub struct Runs {
@@ -40,11 +63,12 @@ impl Runs {
 
     /// One run; it ends early where a call did what it should not.
     pub fn next(&mut self, subject: &mut impl Subject) -> bool {
-        match self.random.below(10) {
+        match self.random.below(11) {
             0 => self.long_run(subject),
             1..=3 => self.strikes(subject),
             4..=6 => self.damaged_calls(subject),
             7..=8 => self.scattered_recoveries(subject),
+            9 => self.saves(subject),
             _ => self.noise(subject),
         }
     }
@@ -59,7 +83,8 @@ impl Runs {
     fn large(&mut self, subject: &mut impl Subject) -> bool {
         LARGE.iter().all(|&(nodes, items)| {
             let fewest = tables::fewest_frames(nodes, items);
-            let frames = self.random.one_of(&[fewest, fewest + 1, 2 * items, 512]);
+            let wanted = self.random.one_of(&[fewest, fewest + 1, 2 * items, tables::MOST_FRAMES]);
+            let frames = tables::allowed_frames(nodes, items, wanted);
             self.formatted_as(subject, Geometry { nodes, items, frames })
                 && self.whole_calls(subject, 60)
                 && self.prepare_commit(subject)
@@ -68,7 +93,7 @@ impl Runs {
         })
     }
 
-    /// A formatted table, perhaps with words to spare, and perhaps of a layout that is refused by now.
+    /// A formatted table, perhaps with words to spare, and perhaps of a layout that a format refuses.
     fn formatted(&mut self, subject: &mut impl Subject) -> bool {
         let geometry = tables::allowed_geometry(&mut self.random);
         self.formatted_as(subject, geometry)
@@ -108,20 +133,84 @@ impl Runs {
             tables::age(&mut self.random, &mut table);
             subject.set(&table);
         }
+        let losses = if self.random.percent(30) { Geometry::of_table(subject.table()).nodes - 3 } else { 0 };
         let count = self.random.one_of(&[0, 3, 10, 30, 60]);
-        self.whole_calls(subject, count)
+        self.lose_some(subject, losses) && self.whole_calls(subject, count)
     }
 
-    /// One long run of whole calls; now and then a node is lost.
+    /// At most so many nodes are lost, so that those left have few frames.
+    fn lose_some(&mut self, subject: &mut impl Subject, most: u64) -> bool {
+        let Geometry { nodes, items, .. } = Geometry::of_table(subject.table());
+        let scratch = (nodes + items) as usize;
+        (0..self.random.below(most + 1)).all(|_| {
+            let lost = self.random.below(nodes);
+            subject.call(Call::Recover { none: 0, lost, scratch }, WHOLE)
+        })
+    }
+
+    /// One long run of whole calls, and a save; now and then a node is lost.
     fn long_run(&mut self, subject: &mut impl Subject) -> bool {
         let steps = self.random.between(50, 400);
-        self.formatted(subject) && self.whole_calls(subject, steps)
+        self.formatted(subject) && self.whole_calls(subject, steps) && self.save(subject)
     }
 
     /// A call cut off, a node's words gone, recoveries cut off, a whole one, and the run goes on.
     fn strikes(&mut self, subject: &mut impl Subject) -> bool {
         self.reached(subject)
             && (0..self.random.between(1, 3)).all(|_| self.strike(subject) && self.whole_calls(subject, 12))
+    }
+
+    /// With few frames, nodes are lost one after the other, and there is a save after each.
+    fn saves(&mut self, subject: &mut impl Subject) -> bool {
+        let (nodes, items) = (self.random.between(3, 8), self.random.between(1, 3));
+        let frames = tables::fewest_frames(nodes, items);
+        self.formatted_as(subject, Geometry { nodes, items, frames })
+            && (0..nodes).all(|_| {
+                let count = self.random.between(4, 16);
+                let crowded = self.random.percent(50);
+                self.whole_calls(subject, count)
+                    && (!crowded || self.crowd(subject))
+                    && self.save(subject)
+                    && self.recoveries(subject)
+            })
+    }
+
+    /// An item is written, and all others are read everywhere: Shared copies fill the frames.
+    fn crowd(&mut self, subject: &mut impl Subject) -> bool {
+        let Geometry { nodes, items, .. } = Geometry::of_table(subject.table());
+        let (writer, written) = (self.random.below(nodes), self.random.below(items));
+        let value = choices::any_value(&mut self.random);
+        let entries = (0..nodes).flat_map(|node| (0..items).map(move |item| (node, item)));
+        let mut others = entries.filter(|(_, item)| *item != written);
+        subject.call(Call::Abandon, WHOLE)
+            && subject.call(Call::Write { node: writer, item: written, value }, WHOLE)
+            && others.all(|(node, item)| subject.call(Call::Read { node, item }, WHOLE))
+    }
+
+    /// A save; a checkpoint that is open is abandoned before.
+    fn save(&mut self, subject: &mut impl Subject) -> bool {
+        subject.call(Call::Abandon, WHOLE)
+            && match Save::of(subject.table()) {
+                Some(save) => self.save_whole(subject, &save),
+                None => self.prepare_commit(subject) && make(subject, Call::Commit, WHOLE),
+            }
+    }
+
+    /// A save of which nothing may be refused.
+    fn save_whole(&mut self, subject: &mut impl Subject, save: &Save) -> bool {
+        let whole = answered(subject, Call::Open, 0)
+            && (0..save.dirty).all(|_| answered(subject, Call::Create, 0))
+            && answered(subject, Call::Create, NOTHING_LEFT)
+            && subject.call(Call::CommitLength, WHOLE)
+            && answered(subject, Call::Commit, 0);
+        if whole && !save.stands_in(subject.table()) {
+            subject.fault("a save has left other marks, or an item that is not clean with its value");
+            return false;
+        }
+        if whole {
+            subject.saved();
+        }
+        whole
     }
 
     /// Opens a checkpoint and creates every item of it, as far as the table lets it.

@@ -49,29 +49,62 @@ pub fn state(current: u64, kept: u64) -> u64 {
     current << 60 | kept << 58
 }
 
+pub const MOST_FRAMES: u64 = 512;
+
+/// From so many frames on, up to the most, all are allowed; besides, as many as a node has places are.
+pub fn enough_frames(nodes: u64, items: u64) -> u64 {
+    (4 * items - 1).div_ceil(nodes - 2)
+}
+
 /// The fewest frames with which a geometry is allowed.
 pub fn fewest_frames(nodes: u64, items: u64) -> u64 {
-    (2 * items - 1).div_ceil(nodes - 2)
+    enough_frames(nodes, items).min(2 * items)
+}
+
+/// These frames where they are allowed, else as many as a node has places.
+pub fn allowed_frames(nodes: u64, items: u64, wanted: u64) -> u64 {
+    if (enough_frames(nodes, items)..=MOST_FRAMES).contains(&wanted) {
+        wanted
+    } else {
+        2 * items
+    }
 }
 
 /// Mostly small; frames often scarce, so that copies need homes and homes drop copies, and now and then more than a
-/// node has places.
+/// node has places. Three or four nodes have never fewer frames than places.
 pub fn allowed_geometry(random: &mut Random) -> Geometry {
     let (nodes, items) = match random.below(200) {
-        0..=119 => (random.between(3, 6), random.between(1, 4)),
-        120..=179 => (random.between(3, 8), random.between(1, 12)),
+        0..=119 => (random.one_of(&[3, 4, 5, 5, 5, 6, 6, 7]), random.between(1, 4)),
+        120..=179 => (random.between(3, 9), random.between(1, 12)),
         180..=198 => (random.between(3, 16), random.between(1, 40)),
         _ => (random.between(3, 16), random.between(1, 256)),
     };
     let fewest = fewest_frames(nodes, items);
-    let frames = match random.below(8) {
-        0..=2 => fewest,
-        3..=4 => fewest + 1,
+    let wanted = match random.below(8) {
+        0..=3 => fewest,
+        4 => fewest + 1,
         5 => 2 * items + random.below(2),
-        6 => random.between(fewest, 512),
+        6 => random.between(fewest, MOST_FRAMES),
         _ => fewest + random.below(items + 1),
     };
-    Geometry { nodes, items, frames: frames.clamp(fewest, 512) }
+    Geometry { nodes, items, frames: allowed_frames(nodes, items, wanted) }
+}
+
+/// A number of frames at the edges of what is allowed, or one beside it.
+fn edge_frames(random: &mut Random, nodes: u64, items: u64) -> u64 {
+    random.one_of(&[enough_frames(nodes, items), 2 * items, 4 * items - 1]) + random.below(3) - 1
+}
+
+/// Allowed, or just not.
+pub fn edge_geometry(random: &mut Random) -> Geometry {
+    let Geometry { nodes, items, .. } = allowed_geometry(random);
+    Geometry { nodes, items, frames: edge_frames(random, nodes, items) }
+}
+
+/// How many of the table's marks are 0.
+pub fn dead_nodes(table: &[u64]) -> usize {
+    let nodes = Geometry::of_table(table).nodes as usize;
+    table.iter().skip(1).take(nodes).filter(|mark| **mark == 0).count()
 }
 
 /// Any numbers: near the limits, or far beyond.
@@ -83,7 +116,7 @@ pub fn any_geometry(random: &mut Random) -> Geometry {
     };
     let nodes = near(&[0, 2, 3, 4, 5, 8, 15, 16, 17, 32, 35]);
     let items = near(&[0, 1, 2, 3, 4, 18, 255, 256, 257, 512, 513]);
-    let frames = near(&[0, 1, 2, 3, 4, 254, 255, 256, 511, 512, 513, 1024]);
+    let frames = near(&[0, 1, 2, 3, 4, 5, 6, 7, 254, 255, 256, 511, 512, 513, 1024]);
     Geometry { nodes, items, frames }
 }
 
@@ -126,8 +159,9 @@ pub fn damage(random: &mut Random, table: &mut Vec<u64>) {
         0 => table.truncate(random.index(table.len() + 1)),
         1 => table[0] ^= 1 << random.below(64),
         2 => {
-            table[0] =
-                geometry_word(geometry.nodes, geometry.items, random.one_of(&[0, 1, geometry.frames - 1, 512, 513]))
+            let edge = edge_frames(random, geometry.nodes, geometry.items);
+            let frames = random.one_of(&[0, 1, geometry.frames - 1, geometry.frames + 1, 512, 513, edge, edge]);
+            table[0] = geometry_word(geometry.nodes, geometry.items, frames & 1023);
         }
         3 => table[1 + node as usize] ^= 1 << random.below(64),
         4 => table[1 + node as usize] = any_mark(random),

@@ -65,13 +65,14 @@ const MOMENTS: u64 = 45;
 const SMALL: usize = 120;
 const MIDDLING: usize = 400;
 
+/// From four nodes on, all frames from the fewest to the most are allowed.
 fn geometry(random: &mut Random) -> Geometry {
     if random.percent(96) {
         return tables::allowed_geometry(random);
     }
     let (nodes, items) = (random.between(6, 16), random.between(40, 256));
     let fewest = tables::fewest_frames(nodes, items);
-    Geometry { nodes, items, frames: random.between(fewest, 512) }
+    Geometry { nodes, items, frames: random.between(fewest, tables::MOST_FRAMES) }
 }
 
 impl Run<'_> {

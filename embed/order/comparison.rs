@@ -7,6 +7,7 @@ use crate::calls::{listed, on_reference, Call, Met, Said};
 use crate::choices::WHOLE;
 use crate::on_library::{on_library, SCRATCH_WORD};
 use crate::runs::Subject;
+use crate::saves;
 use crate::tables::Geometry;
 use crate::watch::Watched;
 
@@ -26,6 +27,8 @@ pub struct Tally {
     /// Stores of a word that was there already.
     pub equal: u64,
     pub faults: u64,
+    /// Saves carried out whole, of tables on which no save may be refused.
+    pub saves: u64,
     /// Calls on tables of up to so many items.
     pub sizes: [u64; SIZES.len()],
     /// How often each instruction stored to a table, by its address.
@@ -43,6 +46,8 @@ pub struct Watch<'a> {
     pub tally: &'a mut Tally,
     pub left: u64,
     pub until: Instant,
+    /// What the library said last.
+    pub said: Said,
 }
 
 impl Subject for Watch<'_> {
@@ -63,6 +68,21 @@ impl Subject for Watch<'_> {
         }
         fault.is_ok() && !self.spent()
     }
+
+    fn said(&self) -> Said {
+        self.said
+    }
+
+    fn fault(&mut self, what: &str) {
+        self.tally.faults += 1;
+        if self.tally.faults <= self.shown {
+            println!("fault in seed {}, run {}: {what}", self.seed, self.run);
+        }
+    }
+
+    fn saved(&mut self) {
+        self.tally.saves += 1;
+    }
 }
 
 impl Watch<'_> {
@@ -77,6 +97,7 @@ impl Watch<'_> {
         let made = &listed[..limit.min(listed.len() as u64) as usize];
         let (expected, after) = by_reference(call, limit, entry);
         let said = self.lend(call, limit, entry, made)?;
+        self.said = said;
         self.tally.calls += 1;
         self.tally.met[call.name_index()][expected.0 as usize] += 1;
         if let Some(size) = size_class(entry) {
@@ -84,6 +105,9 @@ impl Watch<'_> {
         }
         if said != expected {
             return Err(format!("says {said:?} (answer, value, stores), expected {expected:?}"));
+        }
+        if matches!(call, Call::Create) && saves::lacks_home(said.0, entry) {
+            return Err("no home, though there is room for one".to_string());
         }
         if self.table() != after {
             return Err("the table is another one".to_string());
@@ -130,10 +154,7 @@ impl Watch<'_> {
     }
 
     fn report(&mut self, call: Call, limit: u64, text: &str) {
-        self.tally.faults += 1;
-        if self.tally.faults <= self.shown {
-            println!("fault in seed {}, run {}: {call:?}, limit {limit}: {text}", self.seed, self.run);
-        }
+        self.fault(&format!("{call:?}, limit {limit}: {text}"));
     }
 }
 

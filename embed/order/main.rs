@@ -30,6 +30,8 @@ mod random;
 mod reference;
 #[path = "../differential/runs.rs"]
 mod runs;
+#[path = "../differential/saves.rs"]
+mod saves;
 #[path = "../differential/tables.rs"]
 mod tables;
 mod taken_out;
@@ -119,7 +121,7 @@ fn main() {
     let left = given.calls.div_ceil(given.seeds.len() as u64);
     for &seed in &given.seeds {
         let (table, tally) = (&mut table, &mut tally);
-        run_seed(!given.brief, &mut Watch { seed, run: 0, shown: SHOWN, table, tally, left, until });
+        run_seed(!given.brief, &mut Watch { seed, run: 0, shown: SHOWN, table, tally, left, until, said: (0, 0, 0) });
     }
     let mut faults = tally.faults + verdict::judge_instructions(&storing, &tally.instructions);
     if !given.brief {
@@ -128,10 +130,10 @@ fn main() {
     }
     let sizes: Vec<String> = SIZES.iter().zip(tally.sizes).map(|(most, calls)| format!("{most}: {calls}")).collect();
     println!("calls on tables of items up to {}", sizes.join(", "));
-    let Tally { calls, stores, equal, limits, .. } = tally;
+    let Tally { calls, stores, equal, limits, saves, .. } = tally;
     println!(
         "{calls} calls watched, {limits} more at limits 0, 1, 2, ..; {stores} stores, {equal} of a word that was \
-         there, by {} instructions; {:.1} s: {faults} faults",
+         there, by {} instructions; {saves} whole saves; {:.1} s: {faults} faults",
         tally.instructions.len(),
         start.elapsed().as_secs_f64(),
     );

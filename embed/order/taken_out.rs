@@ -32,9 +32,10 @@ fn is_found(table: &mut Watched) -> bool {
     let until = Instant::now() + MOST_TIME;
     let mut tally = Tally::default();
     let mut runs = Runs::new(SEED);
-    let mut watch = Watch { seed: SEED, run: 0, shown: 0, table, tally: &mut tally, left: MOST_CALLS, until };
+    let (tally, left) = (&mut tally, MOST_CALLS);
+    let mut watch = Watch { seed: SEED, run: 0, shown: 0, table, tally, left, until, said: (0, 0, 0) };
     while !watch.spent() && watch.tally.faults == 0 {
         runs.next(&mut watch);
     }
-    tally.faults > 0
+    watch.tally.faults > 0
 }

@@ -1,5 +1,6 @@
 //! Holds the layout of the wrapper to the library and to the second engine's own tables, for every
-//! number of nodes and items: places, owners, the fields of every kind of word, and the most frames.
+//! number of nodes and items: places, owners, the fields of every kind of word; and, with every number
+//! of frames, whether it is allowed.
 
 #[allow(dead_code)]
 mod linkspan;
@@ -45,6 +46,19 @@ impl Compared {
         }
         self.same("the end", layout::row(nodes, items, nodes - 1).end, geometry.words());
         self.same("the end by the library", linkspan::words(nodes, items), Some(geometry.words()));
+    }
+
+    /// A format that is lent no words, and a table of word 0 alone: the frames are judged before the length.
+    fn frames(&mut self, Geometry { nodes, items, frames }: Geometry) {
+        let allowed = tables::allowed_frames(nodes, items, frames) == frames;
+        let refusal = if allowed { Refusal::TooShort } else { Refusal::NoGeometry };
+        let too_many = allowed && frames > 2 * items;
+        let of_format = if too_many { Refusal::TooManyFrames } else { refusal };
+        let formatted = Table::new(&mut []).format(nodes, items, frames);
+        self.same("a format without words", formatted, Answer::Refused(of_format));
+        let mut word = [tables::geometry_word(nodes, items, frames)];
+        self.same("a check of word 0", Table::new(&mut word).check(), Err(refusal));
+        self.same("a recovery of word 0", Table::new(&mut word).recover(None, &mut [0]), Answer::Refused(refusal));
     }
 
     fn owners(&mut self, geometry: Geometry) {
@@ -131,15 +145,14 @@ fn main() {
         for items in 1..=256 {
             let fewest = tables::fewest_frames(nodes, items);
             let mut table = Table::new(&mut words);
-            let refusal = if 2 * items < 512 { Refusal::TooManyFrames } else { Refusal::NoGeometry };
-            assert_eq!(table.format(nodes, items, 2 * items + 1), Answer::Refused(refusal));
             assert!(table.format(nodes, items, 2 * items).is_done());
             assert!(table.format(nodes, items, fewest).is_done());
             let geometry = Geometry { nodes, items, frames: fewest };
             compared.places(geometry, &table);
             compared.owners(geometry);
-            for frames in fewest..=512 {
+            for frames in 0..=513 {
                 compared.geometry(Geometry { frames, ..geometry });
+                compared.frames(Geometry { frames, ..geometry });
             }
         }
     }

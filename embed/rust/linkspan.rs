@@ -89,7 +89,8 @@ pub enum Refusal {
     NoFrame = 9,
     /// There is no copy in that place.
     PlaceInvalid = 10,
-    /// No other live node can take the copy.
+    /// No other live node can take the copy. A create has this answer only where two or more nodes are dead and a node
+    /// has fewer frames than places.
     NoHome = 11,
     /// A dirty item has not been created yet.
     NotAllCreated = 12,
@@ -376,7 +377,8 @@ impl<'a> Table<'a> {
         (self.words.as_mut_ptr(), self.words.len(), self.limit)
     }
 
-    /// Makes a new table in the words, whatever they held. A node has two places for each item, and no more frames.
+    /// Makes a new table in the words, whatever they held. A node has two places for each item, and no more frames; it
+    /// needs as many, or (nodes - 2) * frames >= 4 * items - 1.
     pub fn format(&mut self, nodes: u64, items: u64, frames: u64) -> Answer {
         let (table, len, limit) = self.lent();
         answer(|value, stores| unsafe { ffi::linkspan_format(table, len, nodes, items, frames, limit, value, stores) })

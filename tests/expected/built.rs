@@ -37,7 +37,7 @@ struct Builder<'a> {
 
 impl Builder<'_> {
     fn new(random: &mut Random, geometry: Geometry) -> Builder<'_> {
-        let dying = random.one_of(&[0, 0, 30]);
+        let dying = random.one_of(&[0, 0, 10, 30, 50]);
         let live = (0..geometry.nodes).filter(|_| !random.percent(dying)).collect();
         let creating = random.percent(40);
         let sharing = random.one_of(&[0, 30, 100]);

@@ -7,6 +7,7 @@ mod documented;
 mod frames;
 mod outcomes;
 mod recoveries;
+mod reserved;
 
 use crate::built;
 use crate::calls::Call;
@@ -19,24 +20,27 @@ use arguments::{arguments, formats, unfit_tables};
 use changed::single_changes;
 use disorder::{damaged, disorder, large};
 use documented::documented;
-use frames::{about_places, already_formatted};
+use frames::{about_edges, already_formatted};
 use outcomes::{checkpoints, limits, outcomes, scarce_homes};
 use recoveries::{scarce_frames, scattered, strikes};
+use reserved::{too_few_frames, whole_saves};
 
 /// A part: what it has, its seed, and the function that makes it. Each part draws from its own seed.
 type Part = (&'static str, u64, fn(&mut Vectors));
 
-const PARTS: [Part; 17] = [
+const PARTS: [Part; 19] = [
     ("the cases that document 01 lists", 1, documented),
     ("every single change of a small table", 2, single_changes),
     ("tables without a geometry, or too short for it", 3, unfit_tables),
     ("formats", 4, formats),
-    ("formats with as many frames as places, fewer and more", 16, about_places),
+    ("formats about the fewest and the most frames", 16, about_edges),
     ("tables with more frames than places", 17, already_formatted),
+    ("tables with too few frames for four copies", 18, too_few_frames),
     ("nodes, items and scratch beyond the table's", 5, arguments),
     ("every outcome on tables reached and built", 6, outcomes),
-    ("homes that drop a copy, and no home", 7, scarce_homes),
+    ("homes that drop a copy, no home, and no frame", 7, scarce_homes),
     ("checkpoints, call by call", 8, checkpoints),
+    ("whole saves while at most one node is dead", 19, whole_saves),
     ("every limit of a list", 9, limits),
     ("recoveries from cut calls", 10, strikes),
     ("recoveries with the fewest frames", 11, scarce_frames),
@@ -59,7 +63,7 @@ pub fn all() -> Vectors {
 }
 
 /// The most words of a table that is not among the large ones.
-const SMALL: usize = 60;
+const SMALL: usize = 66;
 
 // What the parts share.
 

@@ -12,6 +12,8 @@ mod choices;
 mod random;
 #[path = "../../embed/differential/reference.rs"]
 mod reference;
+#[path = "../../embed/differential/saves.rs"]
+mod saves;
 #[path = "../../embed/differential/tables.rs"]
 mod tables;
 

@@ -1,6 +1,7 @@
 //! The operations' numbers in both files, and how often each gave each answer.
 
 use crate::calls::{Call, ANSWERS, NO_SUCH_CHOICE};
+use crate::saves;
 use std::collections::BTreeMap;
 
 /// quay's operations, and two that only vectors.bin has: Check and Stretch.
@@ -10,7 +11,7 @@ const NUMBERS: [(&str, u64); 11] = [
     ("write", 2),
     ("evict", 3),
     ("open", 4),
-    ("create", 5),
+    ("create", CREATE),
     ("commit", 6),
     ("abandon", 7),
     ("recover", 8),
@@ -18,11 +19,18 @@ const NUMBERS: [(&str, u64); 11] = [
     ("stretch", STRETCH),
 ];
 
+const CREATE: u64 = 5;
 pub const CHECK: u64 = 16;
 const STRETCH: u64 = 17;
 
 /// quay's answer to a record that is malformed.
 pub const MALFORMED: u64 = 18;
+
+/// The answer to a geometry that is not allowed.
+pub const NO_GEOMETRY: u64 = 3;
+
+/// The answer where a frame is needed and none is free.
+pub const NO_FRAME: u64 = 9;
 
 /// A format's answer to more frames than a node has places.
 pub const TOO_MANY_FRAMES: u64 = 20;
@@ -77,7 +85,11 @@ pub struct Tally {
 }
 
 impl Tally {
-    pub fn note(&mut self, operation: u64, answer: u64) {
+    /// Notes the answer, given the table that the call left; stops the program where a create has found no home though
+    /// at most one node is dead.
+    pub fn note(&mut self, operation: u64, answer: u64, table: &[u64]) {
+        let homeless = operation == CREATE && saves::lacks_home(answer, table);
+        assert!(!homeless, "a create without a home, though at most one node is dead");
         *self.met.entry((operation, answer)).or_default() += 1;
     }
 

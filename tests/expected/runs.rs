@@ -43,7 +43,7 @@ pub fn geometry_within(random: &mut Random, most_words: usize) -> Geometry {
 }
 
 /// A formatted table, perhaps with words to spare, which hold anything; a layout with more frames than places, which a
-/// format refuses by now, is laid out.
+/// format refuses, is laid out.
 pub fn formatted(random: &mut Random, geometry: Geometry) -> Vec<u64> {
     let words = geometry.words() + random.one_of(&[0, 0, 0, 1, 5]) as usize;
     let mut table: Vec<u64> = (0..words).map(|_| random.word()).collect();
@@ -56,12 +56,23 @@ pub fn formatted(random: &mut Random, geometry: Geometry) -> Vec<u64> {
     table
 }
 
+/// Recoveries that name any nodes, so that those left have few frames; three nodes or more are left.
+pub fn some_losses(random: &mut Random, table: &[u64]) -> Vec<Call> {
+    let nodes = Geometry::of_table(table).nodes;
+    (0..random.below(nodes - 2)).map(|_| recovery(table, Some(random.below(nodes)))).collect()
+}
+
 /// A table that a run of whole calls leaves; its geometry may have changed on the way.
 pub fn reached(random: &mut Random, most_words: usize) -> Vec<u64> {
     let geometry = geometry_within(random, most_words);
     let mut table = formatted(random, geometry);
     if random.percent(10) {
         tables::age(random, &mut table);
+    }
+    if random.percent(30) {
+        for lost in some_losses(random, &table) {
+            run(&mut table, lost, WHOLE);
+        }
     }
     for _ in 0..random.one_of(&[0, 3, 10, 30, 60]) {
         let call = choices::likely_call(random, &table);

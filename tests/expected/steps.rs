@@ -2,23 +2,27 @@
 
 use crate::calls::{Call, Said};
 use crate::choices;
-use crate::operations::{self, Tally, TOO_MANY_FRAMES};
+use crate::operations::{self, Tally, NO_FRAME, NO_GEOMETRY, TOO_MANY_FRAMES};
 use crate::quay::{self, Quay, RECORD, TABLE_WORDS};
 use crate::random::Random;
+use crate::runs::some_losses;
+use crate::saves::{Save, NOTHING_LEFT, NO_HOME};
 use crate::tables::{self, geometry_word, Geometry};
 
 /// A part: what it has, its seed, and the function that makes it. Each part draws from its own seed.
 type Part = (&'static str, u64, fn(&mut Steps));
 
-const PARTS: [Part; 10] = [
+const PARTS: [Part; 12] = [
     ("before any format is accepted", 101, unformatted),
     ("the listing of document 01", 102, listing),
     ("the other cases of document 01", 103, documented),
+    ("a frame each, and nodes lost until no home is left", 111, one_frame),
     ("as many frames as places, and one more", 110, places),
     ("formats refused after one that was accepted", 104, refused_formats),
     ("every kind of malformed record", 105, every_malformed),
     ("geometries in turn", 106, geometries_in_turn),
     ("nodes lost until too few are left", 107, losses),
+    ("saves with few frames, none refused until two nodes are dead", 112, saves),
     ("runs at random", 108, runs),
     ("a cut-off record", 109, cut_off),
 ];
@@ -56,7 +60,7 @@ impl Steps {
 
     fn add(&mut self, bytes: &[u8]) -> Said {
         let said = self.quay.serve(bytes);
-        self.tally.note(bytes[0] as u64 >> 4, said.0);
+        self.tally.note(bytes[0] as u64 >> 4, said.0, &self.quay.table);
         self.bytes.extend(bytes);
         said
     }
@@ -143,7 +147,7 @@ fn one_of_each(steps: &mut Steps) {
 }
 
 /// Formats that are refused: no allowed geometry, more frames than places, or more than 8,000 words needed.
-const REFUSED: [(u64, u64, u64); 27] = [
+const REFUSED: [(u64, u64, u64); 36] = [
     (0, 0, 0),
     (2, 1, 2),
     (17, 1, 2),
@@ -152,15 +156,24 @@ const REFUSED: [(u64, u64, u64); 27] = [
     (4, 257, 512),
     (3, 1, 0),
     (3, 1, 513),
+    (3, 1, 1),
     (3, 2, 2),
-    (3, 256, 510),
+    (3, 2, 5),
+    (3, 2, 6),
+    (3, 256, 511),
+    (4, 2, 3),
     (4, 256, 255),
+    (4, 256, 256),
+    (4, 256, 511),
+    (5, 2, 2),
     (16, 18, 2),
+    (16, 18, 3),
+    (16, 18, 5),
     (3, 1, 3),
     (3, 1, 512),
+    (3, 2, 7),
     (4, 2, 5),
-    (3, 255, 511),
-    (3, 255, 512),
+    (3, 128, 512),
     (16, 166, 333),
     (16, 167, 335),
     (16, 167, 512),
@@ -225,16 +238,41 @@ fn documented(steps: &mut Steps) {
     steps.call(Call::Write { node: 2, item: 0, value: 7 });
     assert_eq!(steps.call(Call::Evict { node: 2, item: 0, place: 0 }), (0, 0, 3));
     assert_eq!(steps.call(Call::Read { node: 1, item: 0 }), (0, 7, 3), "the owner is found and was Modified");
-    steps.format(3, 1, 1);
-    assert_eq!(steps.call(Call::Write { node: 0, item: 0, value: 7 }).0, 9);
-    assert_eq!(steps.call(Call::Write { node: 2, item: 0, value: 7 }).0, 0);
-    assert_eq!(steps.call(Call::Open).0, 0);
-    assert_eq!(steps.call(Call::Create).0, 11);
-    assert_eq!(steps.format(4, 256, 256).0, 0);
-    assert_eq!(steps.format(4, 256, 255).0, 3);
-    assert_eq!(steps.format(16, 18, 3).0, 0);
-    assert_eq!(steps.format(16, 18, 2).0, 3);
+    for frames in [255, 256, 511] {
+        assert_eq!(steps.format(4, 256, frames).0, NO_GEOMETRY);
+    }
+    assert_eq!(steps.format(4, 256, 512).0, 0);
+    for frames in [2, 3, 5] {
+        assert_eq!(steps.format(16, 18, frames).0, NO_GEOMETRY);
+    }
+    assert_eq!(steps.format(16, 18, 6).0, 0);
+    assert_eq!(steps.format(3, 1, 1).0, NO_GEOMETRY);
+    assert_eq!(steps.call(Call::Read { node: 15, item: 17 }), (0, 0, 2), "the old table stays");
 }
+
+// A frame each, and nodes lost until no home is left.
+
+fn one_frame(steps: &mut Steps) {
+    let write = |node| Call::Write { node, item: 0, value: 7 };
+    let mut call = |call, answer| assert_eq!(steps.call(call).0, answer, "{call:?}");
+    call(Call::Format { nodes: 5, items: 1, frames: 1 }, 0);
+    call(write(0), NO_FRAME);
+    call(write(2), 0);
+    for lost in [3, 4] {
+        call(Call::Open, 0);
+        call(Call::Create, 0);
+        call(recover(Some(lost)), 0);
+        call(write(2), 0);
+    }
+    call(Call::Evict { node: 2, item: 0, place: 0 }, NO_HOME);
+    call(Call::Evict { node: 0, item: 0, place: 1 }, NO_HOME);
+    call(Call::Open, 0);
+    call(Call::Create, NO_HOME);
+    call(Call::Commit, NOT_ALL_CREATED);
+    call(Call::Abandon, 0);
+}
+
+const NOT_ALL_CREATED: u64 = 12;
 
 // As many frames as places, and one more.
 
@@ -243,7 +281,9 @@ fn places(steps: &mut Steps) {
         assert_eq!(steps.format(nodes, items, 2 * items).0, 0);
         steps.call(Call::Write { node: 2, item: items - 1, value: items });
         for frames in [2 * items + 1, 512] {
-            assert_eq!(steps.format(nodes, items, frames).0, TOO_MANY_FRAMES);
+            let allowed = tables::allowed_frames(nodes, items, frames) == frames;
+            let answer = if allowed { TOO_MANY_FRAMES } else { NO_GEOMETRY };
+            assert_eq!(steps.format(nodes, items, frames).0, answer);
             assert_eq!(steps.call(Call::Read { node: 0, item: items - 1 }).1, items, "the old table stays");
         }
     }
@@ -318,15 +358,15 @@ fn unknown(operation: u64) -> [Words; 4] {
 
 /// Smaller after larger and larger after smaller; the largest have as many words as a table of 8,000 has room for.
 const IN_TURN: [(u64, u64, u64); 10] = [
-    (16, 166, 24),
+    (16, 166, 48),
     (3, 1, 2),
-    (11, 242, 54),
-    (4, 2, 3),
-    (3, 256, 511),
-    (3, 1, 1),
-    (16, 18, 3),
-    (4, 256, 256),
-    (5, 3, 6),
+    (11, 242, 108),
+    (4, 2, 4),
+    (3, 256, 512),
+    (5, 1, 1),
+    (16, 18, 6),
+    (4, 256, 512),
+    (5, 3, 4),
     (16, 166, 332),
 ];
 
@@ -357,7 +397,7 @@ fn corners(steps: &mut Steps, nodes: u64, items: u64) {
 // Nodes lost until too few are left.
 
 fn losses(steps: &mut Steps) {
-    for (nodes, items, frames) in [(5, 2, 4), (8, 3, 3), (16, 18, 3)] {
+    for (nodes, items, frames) in [(5, 2, 4), (8, 3, 2), (16, 18, 6)] {
         steps.format(nodes, items, frames);
         lose_each(steps, nodes);
     }
@@ -377,6 +417,65 @@ fn lose_each(steps: &mut Steps, nodes: u64) {
     steps.call(recover(Some(nodes.min(15))));
 }
 
+// Saves with few frames, none refused until two nodes are dead.
+
+fn saves(steps: &mut Steps) {
+    for (nodes, items, frames) in [(3, 2, 4), (4, 1, 2), (5, 1, 1), (5, 3, 4), (6, 2, 2), (8, 3, 2)] {
+        assert_eq!(steps.format(nodes, items, frames).0, 0);
+        for lost in [1, 0, nodes - 1, 2] {
+            for _ in 0..3 {
+                write_some(steps, nodes, items);
+                save(steps);
+                crowd(steps, nodes, items);
+                save(steps);
+            }
+            steps.call(recover(Some(lost)));
+        }
+    }
+}
+
+/// Items written and read where there are frames, and copies sent elsewhere.
+fn write_some(steps: &mut Steps, nodes: u64, items: u64) {
+    for _ in 0..2 * items {
+        let (node, item) = (steps.random.below(nodes), steps.random.below(items));
+        let value = steps.random.word();
+        steps.call(Call::Write { node, item, value });
+        let (node, place) = (steps.random.below(nodes), steps.random.below(2));
+        steps.call(Call::Evict { node, item, place });
+        steps.call(Call::Read { node: (node + 1) % nodes, item });
+    }
+}
+
+/// An item is written, and all others are read everywhere: Shared copies fill the frames.
+fn crowd(steps: &mut Steps, nodes: u64, items: u64) {
+    let (node, written, value) = (steps.random.below(nodes), steps.random.below(items), steps.random.word());
+    steps.call(Call::Write { node, item: written, value });
+    for node in 0..nodes {
+        for item in (0..items).filter(|item| *item != written) {
+            steps.call(Call::Read { node, item });
+        }
+    }
+}
+
+/// A save of which nothing is refused; where two or more nodes are dead, one that may find no home and is abandoned.
+fn save(steps: &mut Steps) {
+    let Some(save) = Save::of(&steps.quay.table) else { return try_save(steps) };
+    assert_eq!(steps.call(Call::Open).0, 0);
+    for _ in 0..save.dirty {
+        assert_eq!(steps.call(Call::Create).0, 0);
+    }
+    assert_eq!(steps.call(Call::Create).0, NOTHING_LEFT);
+    assert_eq!(steps.call(Call::Commit).0, 0);
+    assert!(save.stands_in(&steps.quay.table), "all items are clean, with their values");
+}
+
+fn try_save(steps: &mut Steps) {
+    steps.call(Call::Open);
+    while steps.call(Call::Create).0 == 0 {}
+    steps.call(Call::Commit);
+    steps.call(Call::Abandon);
+}
+
 // Runs at random.
 
 fn runs(steps: &mut Steps) {
@@ -390,8 +489,11 @@ fn runs(steps: &mut Steps) {
 
 fn run(steps: &mut Steps, geometry: Geometry) {
     steps.format(geometry.nodes, geometry.items, geometry.frames);
-    let length = steps.random.between(20, 300).min(RECORDS - steps.tally.total());
-    for _ in 0..length {
+    let end = RECORDS.min(steps.tally.total() + steps.random.between(20, 300));
+    if steps.random.percent(40) {
+        lose_some(steps, end);
+    }
+    while steps.tally.total() < end {
         match steps.random.below(100) {
             0..=3 => {
                 let call = any_call(&mut steps.random);
@@ -406,7 +508,26 @@ fn run(steps: &mut Steps, geometry: Geometry) {
                 let words = (steps.random.word(), steps.random.word());
                 steps.record(words);
             }
+            9 => save_until(steps, end),
             _ => likely(steps),
+        }
+    }
+}
+
+/// A save, if there is room for its records; a checkpoint that is open is abandoned before.
+fn save_until(steps: &mut Steps, end: u64) {
+    let most = Geometry::of_table(&steps.quay.table).items + 5;
+    if steps.tally.total() + most <= end {
+        steps.call(Call::Abandon);
+        save(steps);
+    }
+}
+
+/// Nodes are lost, so that those left have few frames.
+fn lose_some(steps: &mut Steps, end: u64) {
+    for lost in some_losses(&mut steps.random, &steps.quay.table) {
+        if steps.tally.total() < end {
+            steps.call(lost);
         }
     }
 }

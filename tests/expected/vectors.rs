@@ -38,7 +38,7 @@ impl Vectors {
         let places: Vec<usize> = (0..given.len()).filter(|&place| given[place] != table[place]).collect();
         let [first, second, third, choice] = arguments(&call);
         let operation = operations::number(&call);
-        self.tally.note(operation, answer);
+        self.tally.note(operation, answer, table);
         self.put(&[operation, first, second, third, choice, limit]);
         self.put(&[given.len() as u64, places.len() as u64, scratch.len() as u64, answer, value, stores]);
         self.put(&given);

@@ -31,6 +31,8 @@ pub mod CommitSound
 pub mod CommitCount
 pub mod CommitLength
 pub mod CreateSound
+pub mod CreateRoom
+pub mod SaveSteps
 pub mod CommitServes
 pub mod OpenServes
 pub mod AbandonServes

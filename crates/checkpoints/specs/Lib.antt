@@ -2,6 +2,7 @@
 pub mod Checkpoint
 pub mod Open
 pub mod Create
+pub mod CreateRoom
 pub mod Commit
 pub mod CommitCount
 pub mod code

@@ -26,6 +26,7 @@ pub mod HomeRefused
 pub mod LastWritten
 pub mod NeverForTable
 pub mod Demand2Theorem
+pub mod SaveTheorem
 pub mod RunPoints
 pub mod Demand3Theorem
 -- ---- what no call reads

@@ -1,13 +1,14 @@
--- Document 01's examples marked P, in one table.
+-- Document 01's examples marked P, in one table; with what document 02 makes of those with 1 frame a node (K2).
 use Prim.Native.Nat.{ℕ}
 use mathlib.Core.Path.{_≡_}
 use mathlib.Core.Bool.{cond}
-use mathlib.Core.List.{List, [], _∷_}
+use mathlib.Core.List.{List, [], _∷_, _++_}
 use lib.Dec.{eqb}
 use lib.ListN.{getD, take, replicate}
 use Rattle.table.specs.View.{view, current}
 use Rattle.table.specs.declared.answers.Numbers.{Numbers}
 use Rattle.table.specs.Answers.{Plan, numbersAt, tableOf}
+use Rattle.layout.specs.Formatted.{freshOn}
 use Rattle.homes.specs.declared.places.Place.the-variants.{Current}
 use Rattle.survivors.specs.declared.lost.Lost.{Lost}
 use Rattle.survivors.specs.declared.lost.Lost.the-variants.{Nobody, Node}
@@ -17,9 +18,9 @@ use Rattle.restore.specs.Run.{Step, geometryIn, storeCount, planAt, tabl
 
 -- ---- the calls
 
--- with a scratch of M + N words
+-- with scratch enough: M + N words, for at most 5 nodes and 1 item
 abbrev pub step : Call → Step
-step call = record { call = call; scratch = 4 }
+step call = record { call = call; scratch = 6 }
 
 -- the words of 3 nodes and 1 item
 abbrev pub zeros : List ℕ
@@ -54,11 +55,22 @@ cutCommit limit = tableOf (planAt (before 5) (step Commit)) limit (before 5)
 abbrev pub recovered : ℕ → Lost → List ℕ
 recovered limit lost = tableBy (cutCommit limit) (step (Recover lost))
 
--- "geometry 3, 1, 1", and after these calls
-abbrev pub narrow : List Step → List ℕ
-narrow calls = run zeros (step (Format 3 1 1) ∷ calls)
+-- the words of Format's list for "geometry 3, 1, 1"
+abbrev pub narrow : List ℕ
+narrow = freshOn (record { nodes = 3; items = 1; frames = 1 }) zeros
 
--- ---- the rows: what the definitions give, and what the document says
+-- geometry 5, 1, 1, and after these calls
+abbrev pub tight : List Step → List ℕ
+tight calls = run (replicate 21 0) (step (Format 5 1 1) ∷ calls)
+
+-- a write at node 2 where node 3 is dead, and where node 4 is too
+abbrev pub oneDead : List Step
+oneDead = step (Recover (Node 3)) ∷ step (Write 2 0 7) ∷ []
+
+abbrev pub twoDead : List Step
+twoDead = step (Recover (Node 3)) ∷ step (Recover (Node 4)) ∷ step (Write 2 0 7) ∷ []
+
+-- ---- the rows: what the definitions give, and what the documents say
 
 pub data Shown : Type 0 where
   -- answer, value and stores of a call
@@ -150,14 +162,27 @@ examples =
     ∷ call (before 2) (step (Evict 2 0 Current)) 0 0 3
     -- "node 0 is Modified": "Current: .. 3 Modified (exclusive)"
     ∷ stateIs (tableBy (before 2) (step (Evict 2 0 Current))) 0 3
-    -- "geometry 3, 1, 1: a write at node 0 is 9"
-    ∷ call (narrow []) (step (Write 0 0 7)) 9 0 0
-    -- "at node 2 done"
-    ∷ isDone (narrow []) (step (Write 2 0 7))
-    -- "open"
-    ∷ isDone (narrow (step (Write 2 0 7) ∷ [])) (step Open)
-    -- "create then 11"
-    ∷ call (narrow (step (Write 2 0 7) ∷ step Open ∷ [])) (step Create) 11 0 0
+    -- "its cases 3, 1, 1 and 4, 256, 256 and 16, 18, 3 now give 3" (K2)
+    ∷ call zeros (step (Format 3 1 1)) 3 0 0
+    ∷ call zeros (step (Format 4 256 256)) 3 0 0
+    ∷ call zeros (step (Format 16 18 3)) 3 0 0
+    -- the calls of the case 3, 1, 1, on a table that has its words: "a write at node 0", "at node 2", "open", "create"
+    ∷ call narrow (step (Write 0 0 7)) 3 0 0
+    ∷ call narrow (step (Write 2 0 7)) 3 0 0
+    ∷ call narrow (step Open) 3 0 0
+    ∷ call narrow (step Create) 3 0 0
+    -- in its place geometry 5, 1, 1: a write at node 0 is 9
+    ∷ call (tight []) (step (Write 0 0 7)) 9 0 0
+    -- at node 2 done
+    ∷ isDone (tight []) (step (Write 2 0 7))
+    -- with node 3 dead: open, create done
+    ∷ isDone (tight oneDead) (step Open)
+    ∷ isDone (tight (oneDead ++ (step Open ∷ []))) (step Create)
+    -- with nodes 3 and 4 dead: open done, create then 11
+    ∷ isDone (tight twoDead) (step Open)
+    ∷ call (tight (twoDead ++ (step Open ∷ []))) (step Create) 11 0 0
+    -- and evicting node 2's current place 11
+    ∷ call (tight twoDead) (step (Evict 2 0 Current)) 11 0 0
     ∷ []
 
 -- ---- what is proved of the table

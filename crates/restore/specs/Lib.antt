@@ -9,6 +9,7 @@ pub mod Strike
 pub mod OneItem
 pub mod History
 pub mod Demand2
+pub mod Save
 pub mod Demand3
 -- ---- what no call reads
 pub mod Unread

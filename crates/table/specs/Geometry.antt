@@ -1,8 +1,8 @@
 -- Which geometries are allowed, and where the words of a table lie.
 use Prim.Native.Nat.{ℕ, _+_, _-_, _*_, _<_}
 use mathlib.Core.Path.{_≡_}
-use mathlib.Core.Bool.{Bool, not, cond, _&&_}
-use lib.Dec.{leb, ltb}
+use mathlib.Core.Bool.{Bool, cond, _&&_, _||_}
+use lib.Dec.{eqb, leb}
 use Rattle.table.specs.declared.geometry.Geometry.{Geometry}
 use Rattle.table.specs.declared.geometry.Made.{Made}
 use Rattle.table.specs.declared.geometry.Made.the-variants.{Allowed, NotAllowed}
@@ -11,9 +11,13 @@ use Rattle.table.specs.declared.geometry.Made.the-variants.{Allowed, Not
 abbrev pub inRanges : ℕ → ℕ → ℕ → Bool
 inRanges n m f = leb 3 n && (leb n 16 && (leb 1 m && (leb m 256 && (leb 1 f && leb f 512))))
 
--- "A geometry is allowed if also (N − 2) × F ≥ 2 × M − 1."
+-- "F = 2 × M or (N − 2) × F ≥ 4 × M − 1" (K2): frames for four copies of an item while a point is created
+abbrev pub fourCopies : ℕ → ℕ → ℕ → Bool
+fourCopies n m f = eqb f (2 * m) || leb (4 * m - 1) ((n - 2) * f)
+
+-- "a geometry is allowed only if" it has these, "besides the ranges" (K2)
 abbrev pub allowed : ℕ → ℕ → ℕ → Bool
-allowed n m f = inRanges n m f && not (ltb ((n - 2) * f) (2 * m - 1))
+allowed n m f = inRanges n m f && fourCopies n m f
 
 unfoldable pub geometryOf : ℕ → ℕ → ℕ → Made
 geometryOf n m f = cond (allowed n m f) (Allowed (record { nodes = n; items = m; frames = f })) NotAllowed

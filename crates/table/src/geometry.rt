@@ -31,7 +31,7 @@ impl Geometry {
     // The words of an entry: state word, current value, kept value.
     pub const ENTRY_WORDS: usize = 3;
 
-    // The geometry of these numbers, if it is allowed.
+    // The geometry of these numbers, if it is allowed: in the ranges, and with frames for four copies of an item.
     pub fn new(nodes: u64, items: u64, frames: u64) -> Made
         ensures { λ r. ⌜ r ≡ geometryOf nodes items frames ⌝ }
     {
@@ -43,7 +43,8 @@ impl Geometry {
         if !ranges {
             return Made::NotAllowed;
         }
-        if (nodes - 2) * frames < 2 * items - 1 {
+        let reserved = (frames == 2 * items) | (4 * items - 1 <= (nodes - 2) * frames);
+        if !reserved {
             return Made::NotAllowed;
         }
         Made::Allowed(Geometry {

@@ -12,7 +12,7 @@ use crate::vectors::Vectors;
 // Tables without a geometry, or too short for it.
 
 pub fn unfit_tables(vectors: &mut Vectors) {
-    let table = small_table(2, &[]);
+    let table = small_table(&[]);
     for word in unfit_words(table[0]) {
         every_kind(vectors, &with_word(&table, 0, word));
     }
@@ -41,9 +41,12 @@ fn unfit_words(good: u64) -> Vec<u64> {
         (3, 511, 1023),
         (3, 1, 0),
         (3, 1, 513),
+        (3, 1, 1),
         (3, 2, 2),
-        (4, 256, 255),
-        (16, 18, 2),
+        (3, 2, 5),
+        (3, 256, 511),
+        (4, 256, 511),
+        (16, 18, 5),
     ];
     let words = geometries.map(|(nodes, items, frames)| geometry_word(nodes, items, frames));
     words.into_iter().chain([good | 1, good | 1 << 35, good | 1 << 60, good | 1 << 63, u64::MAX]).collect()
@@ -68,7 +71,7 @@ pub fn formats(vectors: &mut Vectors) {
     }
     for limit in 0..15 {
         let table = any_words(&mut vectors.random, 14);
-        vectors.call(&table, Call::Format { nodes: 3, items: 1, frames: 1 }, limit);
+        vectors.call(&table, Call::Format { nodes: 3, items: 1, frames: 2 }, limit);
     }
 }
 
@@ -124,8 +127,8 @@ pub fn arguments(vectors: &mut Vectors) {
 fn addressed_tables() -> [Vec<u64>; 3] {
     let write = Call::Write { node: 2, item: 0, value: 5 };
     let lose = Call::Recover { none: 0, lost: 1, scratch: 4 };
-    let running = small_table(2, &[lose, write]);
-    let open = small_table(2, &[lose, write, Call::Open]);
+    let running = small_table(&[lose, write]);
+    let open = small_table(&[lose, write, Call::Open]);
     let out_of_form = with_word(&running, 4, running[4] | 1);
     [running, open, out_of_form]
 }

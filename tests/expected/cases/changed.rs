@@ -4,7 +4,7 @@ use super::{one_of_each, pick};
 use crate::calls::Call;
 use crate::choices::WHOLE;
 use crate::runs::run;
-use crate::tables::{mark, state, LARGEST_NUMBER};
+use crate::tables::{mark, state, Geometry, LARGEST_NUMBER};
 use crate::vectors::Vectors;
 
 pub fn single_changes(vectors: &mut Vectors) {
@@ -13,50 +13,69 @@ pub fn single_changes(vectors: &mut Vectors) {
             check_twice(vectors, &changed);
         }
     }
-    let table = small_table(2, &[]);
+    let table = small_table(&[]);
     for bit in 0..64 {
         check_twice(vectors, &with_word(&table, 0, table[0] ^ 1 << bit));
     }
 }
 
-/// Two calls on a table of three nodes and one item: a recovery, and another that checks the table.
+/// Two calls on a table of one item: a recovery, and another that checks the table.
 fn check_twice(vectors: &mut Vectors, table: &[u64]) {
-    let [check, _, others @ .., recover] = one_of_each(&mut vectors.random, 3, 1, 4);
+    let nodes = (table.len() as u64 - 1) / 4;
+    let [check, _, others @ .., recover] = one_of_each(&mut vectors.random, nodes, 1, nodes as usize + 1);
     let other = if vectors.random.percent(40) { check } else { pick(&mut vectors.random, &others) };
     vectors.call(table, other, WHOLE);
     vectors.call(table, recover, WHOLE);
 }
 
-/// Three nodes and one item: clean and shared, modified with no frame left, owned and shared by one or by all, dirty
-/// and created in an open checkpoint, modified beside a dead node.
+/// One item. On three nodes: owned and shared by one or by all, dirty and created in an open checkpoint, modified
+/// beside a dead node. On five nodes with a frame each: clean and shared; modified, with two nodes dead and no frame
+/// left.
 fn small_tables() -> [Vec<u64>; 7] {
     let write = Call::Write { node: 2, item: 0, value: 7 };
     let read = |node| Call::Read { node, item: 0 };
-    let lose = Call::Recover { none: 0, lost: 1, scratch: 4 };
+    let lose = |lost| Call::Recover { none: 0, lost, scratch: 6 };
     [
-        small_table(1, &[read(2)]),
-        small_table(1, &[write]),
-        small_table(2, &[write, read(0)]),
-        small_table(2, &[write, read(0), read(1)]),
-        small_table(2, &[write, Call::Open]),
-        small_table(2, &[write, read(0), read(1), Call::Open, Call::Create]),
-        small_table(2, &[lose, write]),
+        small_table(&[write, read(0)]),
+        small_table(&[write, read(0), read(1)]),
+        small_table(&[write, Call::Open]),
+        small_table(&[write, read(0), read(1), Call::Open, Call::Create]),
+        small_table(&[lose(1), write]),
+        tight_table(&[read(2)]),
+        tight_table(&[lose(3), lose(4), write]),
     ]
 }
 
-pub fn small_table(frames: u64, calls: &[Call]) -> Vec<u64> {
-    let mut table = vec![0; 13];
-    for &call in [Call::Format { nodes: 3, items: 1, frames }].iter().chain(calls) {
+/// Three nodes, with as many frames as places.
+pub fn small_table(calls: &[Call]) -> Vec<u64> {
+    table_of(Geometry { nodes: 3, items: 1, frames: 2 }, calls)
+}
+
+/// Five nodes, with a frame each.
+fn tight_table(calls: &[Call]) -> Vec<u64> {
+    table_of(Geometry { nodes: 5, items: 1, frames: 1 }, calls)
+}
+
+fn table_of(geometry: Geometry, calls: &[Call]) -> Vec<u64> {
+    let Geometry { nodes, items, frames } = geometry;
+    let mut table = vec![0; geometry.words()];
+    for &call in [Call::Format { nodes, items, frames }].iter().chain(calls) {
         assert_eq!(run(&mut table, call, WHOLE).0, 0);
     }
     level(&mut table);
     table
 }
 
+/// The places of the nodes' entries for the only item.
+fn entries_of(table: &[u64]) -> Vec<usize> {
+    let geometry = Geometry::of_table(table);
+    (0..geometry.nodes).map(|node| geometry.entry(node, 0)).collect()
+}
+
 /// Gives Invalid places, whose values are free, the values that the item has: a state that is changed then decides
 /// alone whether the table is sound.
 fn level(table: &mut [u64]) {
-    let entries = [4, 7, 10];
+    let entries = entries_of(table);
     let has_current = |entry: &&usize| table[**entry] >> 60 != 0;
     let has_kept = |entry: &&usize| table[**entry] >> 58 & 3 != 0;
     let value = entries.iter().find(has_current).map_or(0, |entry| table[entry + 1]);
@@ -74,10 +93,11 @@ fn level(table: &mut [u64]) {
 /// The table with one word changed: another mark, another state, one bit of a value.
 fn changes(table: &[u64]) -> Vec<Vec<u64>> {
     let mut words: Vec<(usize, u64)> = Vec::new();
-    for node in 1..=3 {
+    let entries = entries_of(table);
+    for node in 1..=entries.len() {
         words.extend(marks_for(table[node]).into_iter().map(|mark| (node, mark)));
     }
-    for entry in [4, 7, 10] {
+    for entry in entries {
         words.extend(states_for(table[entry]).into_iter().map(|state| (entry, state)));
         for bit in [0, 32, 63] {
             words.extend([entry + 1, entry + 2].map(|place| (place, table[place] ^ 1 << bit)));
@@ -108,7 +128,7 @@ fn remarked(table: &[u64]) -> Vec<Vec<u64>> {
     let marks = (0..4).flat_map(|phase| numbers.map(|number| mark(phase, number)));
     let with_mark = |mark| {
         let mut changed = table.to_vec();
-        changed[1..=3].iter_mut().filter(|word| **word != 0).for_each(|word| *word = mark);
+        changed[1..=entries_of(table).len()].iter_mut().filter(|word| **word != 0).for_each(|word| *word = mark);
         changed
     };
     marks.map(with_mark).collect()

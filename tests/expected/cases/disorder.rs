@@ -44,7 +44,7 @@ pub fn disorder(vectors: &mut Vectors) {
 // Large tables.
 
 pub fn large(vectors: &mut Vectors) {
-    for (nodes, items, frames) in [(16, 166, 24), (3, 256, 511), (16, 40, 80), (6, 60, 120)] {
+    for (nodes, items, frames) in [(16, 166, 48), (3, 256, 512), (16, 40, 80), (6, 60, 60)] {
         let geometry = Geometry { nodes, items, frames };
         assert!(geometry.words() + 5 <= MOST_WORDS);
         large_run(vectors, geometry);

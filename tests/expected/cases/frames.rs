@@ -1,4 +1,4 @@
-//! Frames that can never be used: a node has two places for each item. A format with more frames is refused, and a
+//! The fewest frames and the most. A node has two places for each item: a format with more frames is refused, and a
 //! table that has them already goes on working.
 
 use super::arguments::any_words;
@@ -9,16 +9,19 @@ use crate::operations::TOO_MANY_FRAMES;
 use crate::runs::{self, foreseen, recovery};
 use crate::tables::{self, Geometry};
 use crate::vectors::Vectors;
+use std::collections::BTreeSet;
 
-// Formats with as many frames as places, fewer and more.
+// Formats about the fewest and the most frames.
 
-pub fn about_places(vectors: &mut Vectors) {
-    for (nodes, items) in [(3, 1), (4, 2), (3, 5), (16, 3)] {
-        for frames in [2 * items - 1, 2 * items, 2 * items + 1, 511, 512, 513] {
+pub fn about_edges(vectors: &mut Vectors) {
+    for (nodes, items) in [(3, 1), (3, 2), (3, 5), (4, 2), (5, 1), (5, 3), (6, 2), (16, 3), (16, 4)] {
+        let enough = tables::enough_frames(nodes, items);
+        let edges = [enough - 1, enough, enough + 1, 2 * items - 1, 2 * items, 2 * items + 1, 511, 512, 513];
+        for frames in BTreeSet::from(edges) {
             format_on_each(vectors, Geometry { nodes, items, frames });
         }
     }
-    for (items, frames) in [(255, 510), (255, 511), (255, 512), (256, 511), (256, 512), (256, 513)] {
+    for (items, frames) in [(128, 511), (129, 512), (255, 510), (256, 511), (256, 512), (256, 513)] {
         format_on_each(vectors, Geometry { nodes: 3, items, frames });
     }
 }
@@ -38,7 +41,7 @@ fn format_on_each(vectors: &mut Vectors, geometry: Geometry) {
 // Tables with more frames than places.
 
 pub fn already_formatted(vectors: &mut Vectors) {
-    for (nodes, items, frames) in [(3, 1, 3), (3, 1, 512), (3, 2, 5), (4, 2, 9), (5, 3, 40)] {
+    for (nodes, items, frames) in [(3, 1, 3), (3, 1, 512), (3, 2, 7), (4, 2, 9), (5, 3, 40)] {
         let geometry = Geometry { nodes, items, frames };
         assert!(geometry.has_unusable_frames());
         let table = runs::formatted(&mut vectors.random, geometry);

@@ -4,9 +4,10 @@ use super::{call_near, losses, pick, some_table, SMALL};
 use crate::built;
 use crate::calls::{Call, Said};
 use crate::choices::{self, WHOLE};
-use crate::operations;
+use crate::operations::{self, NO_FRAME};
 use crate::random::Random;
 use crate::runs::{self, foreseen, recovery, run};
+use crate::saves::NO_HOME;
 use crate::tables::{self, Geometry};
 use crate::vectors::Vectors;
 use std::collections::BTreeMap;
@@ -65,14 +66,18 @@ fn met(table: &[u64], call: &Call) -> (u64, u64) {
     }
 }
 
-// Homes that drop a copy, and no home.
+// Homes that drop a copy, no home, and no frame.
 
 pub fn scarce_homes(vectors: &mut Vectors) {
     for _ in 0..40 {
-        call_with(vectors, |(_, _, stores)| stores == DROPPING);
+        call_with(vectors, |call, (_, _, stores)| {
+            stores == DROPPING && matches!(call, Call::Evict { .. } | Call::Create)
+        });
     }
     for _ in 0..10 {
-        call_with(vectors, |(answer, _, _)| answer == NO_HOME);
+        call_with(vectors, |call, (answer, _, _)| answer == NO_HOME && matches!(call, Call::Evict { .. }));
+        call_with(vectors, |call, (answer, _, _)| answer == NO_HOME && matches!(call, Call::Create));
+        call_with(vectors, |_, (answer, _, _)| answer == NO_FRAME);
     }
 }
 
@@ -80,10 +85,8 @@ pub fn scarce_homes(vectors: &mut Vectors) {
 /// that it leaves.
 const DROPPING: u64 = 4;
 
-const NO_HOME: u64 = 11;
-
-/// Up to three copies that leave, with what is wanted said, on a table built for it.
-fn call_with(vectors: &mut Vectors, wanted: fn(Said) -> bool) {
+/// Up to three calls that are wanted, on a table built for it.
+fn call_with(vectors: &mut Vectors, wanted: Wanted) {
     let (table, calls) = table_with(&mut vectors.random, wanted);
     for _ in 0..calls.len().min(3) {
         let call = pick(&mut vectors.random, &calls);
@@ -91,12 +94,15 @@ fn call_with(vectors: &mut Vectors, wanted: fn(Said) -> bool) {
     }
 }
 
-/// A table on which a copy leaves with what is wanted said, and all calls that do so.
-fn table_with(random: &mut Random, wanted: fn(Said) -> bool) -> (Vec<u64>, Vec<Call>) {
+/// Whether a call and what it says are wanted.
+type Wanted = fn(&Call, Said) -> bool;
+
+/// A table with calls that are wanted, and all of them.
+fn table_with(random: &mut Random, wanted: Wanted) -> (Vec<u64>, Vec<Call>) {
     loop {
         let table = built::sound(random, SMALL);
         let mut calls = every_call(random, &table);
-        calls.retain(|call| matches!(call, Call::Evict { .. } | Call::Create) && wanted(foreseen(&table, *call)));
+        calls.retain(|call| wanted(call, foreseen(&table, *call)));
         if !calls.is_empty() {
             return (table, calls);
         }

@@ -52,14 +52,18 @@ pub fn scarce_frames(vectors: &mut Vectors) {
     }
 }
 
-/// A clean table with the fewest frames, its copies moved about.
+/// A clean table with the fewest frames, its copies moved about before each loss of a node.
 fn clean_and_tight(random: &mut Random) -> Vec<u64> {
-    let (nodes, items) = (random.between(3, 6), random.between(2, 4));
+    let (nodes, items) = (random.between(4, 7), random.between(2, 4));
     let frames = tables::fewest_frames(nodes, items);
     let mut table = runs::formatted(random, Geometry { nodes, items, frames });
-    for _ in 0..12 {
-        let (node, item) = (random.below(nodes), random.below(items));
-        run(&mut table, Call::Evict { node, item, place: 0 }, WHOLE);
+    for _ in 0..random.between(1, nodes - 2) {
+        for _ in 0..12 {
+            let (node, item) = (random.below(nodes), random.below(items));
+            run(&mut table, Call::Evict { node, item, place: 0 }, WHOLE);
+        }
+        let lost = recovery(&table, Some(random.below(nodes)));
+        run(&mut table, lost, WHOLE);
     }
     table
 }
@@ -94,8 +98,9 @@ fn scattered_with(random: &mut Random, wanted: u64) -> (Vec<u64>, Call) {
         let geometry = runs::geometry_within(random, SMALL);
         let mut table = runs::formatted(random, geometry);
         tables::scatter(random, &mut table);
+        let dying = random.one_of(&[10, 10, 50]);
         for node in 0..geometry.nodes as usize {
-            if random.percent(10) {
+            if random.percent(dying) {
                 table[1 + node] = 0;
             }
         }

@@ -108,7 +108,7 @@ kept-two (suc (suc zero)) h = refl
 kept-two (suc (suc (suc k))) h = absurd (omega arith)
 
 module _ (v : View) (N b : ℕ) (forms : (n : ℕ) → n < N → live v n ≡ true → stateForm (v .entry n b .state) ≡ true) where
-  keeps-two : count (keptCopy v b) N ≡ count (hasKept v b invCK1) N + count (hasKept v b invCK2) N
+  pub keeps-two : count (keptCopy v b) N ≡ count (hasKept v b invCK1) N + count (hasKept v b invCK2) N
   keeps-two =
       let k : ℕ → ℕ = λ n. kept (v .entry n b) in
       count-ext N (keptCopy v b) (λ n. live v n && (eqb (k n) invCK1 || eqb (k n) invCK2))

@@ -39,7 +39,8 @@ use Rattle.checkpoints.proofs.Laws.CreateTheorem.{acted, creates, store
 
 -- ---- an item with an owner is dirty
 
-owns-dirty : (codes : ℕ → Bool) → codes owner ≡ false → codes modified ≡ false → (c : ℕ) → owns c ≡ true → codes c ≡ true → ⊥
+pub owns-dirty :
+    (codes : ℕ → Bool) → codes owner ≡ false → codes modified ≡ false → (c : ℕ) → owns c ≡ true → codes c ≡ true → ⊥
 owns-dirty codes f₁ f₂ c h t = either (eqb c owner) h
     (λ q. no-both t (ap codes (eqb-true c owner q) ∙ f₁))
     (λ q. no-both t (ap codes (eqb-true c modified q) ∙ f₂))
@@ -51,13 +52,14 @@ module _ (v : View) (N b o : ℕ) (there : o < N) (alive : live v o ≡ true) (o
   owner-copy : copy v b o ≡ true
   owner-copy = copy-at v b o alive (owns-not _ owned .1)
 
-  kind-dirty : (phase : ℕ) → Kind phase v N b → Dirty v N b
+  pub kind-dirty : (phase : ℕ) → Kind phase v N b → Dirty v N b
   kind-dirty phase (clean k) = absurd (owns-dirty cleanCode refl refl (current (v .entry o b)) owned (k .others o there owner-copy))
   kind-dirty phase (dirty k) = k
   kind-dirty phase (created e k) = absurd (owns-dirty createdCode refl refl (current (v .entry o b)) owned (k .others o there owner-copy))
 
   -- every other copy of it is Shared
-  others-shared : (m : ℕ) → Owned v N b m → (k : ℕ) → k < N → copy v b k ≡ true → k ≢ o → current (v .entry k b) ≡ shared
+  pub others-shared :
+      (m : ℕ) → Owned v N b m → (k : ℕ) → k < N → copy v b k ≡ true → k ≢ o → current (v .entry k b) ≡ shared
   others-shared m (modified-at a alone) k l t d = absurd (d (alone k l t ∙ sym (alone o there owner-copy)))
   others-shared m (owner-at a codes) k l t d =
       let c : current (v .entry o b) ≡ owner = owner-owns _ owned (codes o there owner-copy) in

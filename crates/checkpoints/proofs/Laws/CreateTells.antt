@@ -69,11 +69,11 @@ values-agree g v phase number b good item n m ln lm dn dm = of-kind (good .items
 -- ---- the owner and the partner
 
 module _ (g : Geometry) (v : View) (b : ℕ) where
-  record Owning : Type 0 where
-    node : Live g v (ownerOf g v b)
-    owned : owns (current (v .entry (ownerOf g v b) b)) ≡ true
+  pub record Owning : Type 0 where
+    pub node : Live g v (ownerOf g v b)
+    pub owned : owns (current (v .entry (ownerOf g v b) b)) ≡ true
 
-  owner-tells : ownerOf g v b < g .nodes → Owning
+  pub owner-tells : ownerOf g v b < g .nodes → Owning
   unfolding ownerOf ownsAt
   owner-tells l =
       let p = both (live v (ownerOf g v b)) (first-passes (ownsAt v b) (g .nodes) l) in
@@ -90,7 +90,7 @@ module _ (g : Geometry) (v : View) (b : ℕ) where
       let p = both (live v (sharerOf g v b)) (first-passes (sharesAt v b) (g .nodes) l) in
       record { node = test-live g v (sharerOf g v b) l (p .0); place = eqb-true _ shared (p .1) }
 
-  none-shares : hasSharer g v b ≡ false → (k : ℕ) → Live g v k → eqb (current (v .entry k b)) shared ≡ false
+  pub none-shares : hasSharer g v b ≡ false → (k : ℕ) → Live g v k → eqb (current (v .entry k b)) shared ≡ false
   unfolding sharerOf sharesAt
   none-shares q k l =
       let m = ltb-false (sharerOf g v b) (g .nodes) q in

@@ -31,7 +31,7 @@ module _ (t : List ℕ) {g : Geometry} {value : ℕ} {ss : List Store} (accepted
   pub passed : faultOf t ≡ Passed g
   passed = rw (creates .same) at (acted .passed)
 
-  some : dirtyItem g (view g t) < g .items
+  pub some : dirtyItem g (view g t) < g .items
   some = rw (creates .same) at (creates .some)
 
   partnered : noPartner g (view g t) (dirtyItem g (view g t)) ≡ false

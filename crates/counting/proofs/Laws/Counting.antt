@@ -1,6 +1,6 @@
 -- The laws of `specs/Counting.antt`.
 use mathlib.Core.Path.{_≡_, refl, sym, ap, ap₂, _∙_}
-use mathlib.Core.Bool.{Bool, true, false, _&&_, _||_}
+use mathlib.Core.Bool.{Bool, true, false, not, _&&_, _||_}
 use Prim.Native.Nat.{ℕ, zero, suc, _+_, _*_, _≤_, _<_}
 use native.Mathlib.Omega.{arith}
 use native.Mathlib.Numerals.{add-one}
@@ -187,6 +187,13 @@ unfolding count
 count-some zero p m h e = absurd (omega arith)
 count-some (suc n) p m h e =
     below (λ m. p m ≡ true → 1 ≤ count p (suc n)) h (λ l e. omega (arith, count-some n p m l e)) (λ e. omega (arith, ap one e)) e
+
+-- those that pass and those that do not
+pub count-not : (n : ℕ) (p : ℕ → Bool) → count p n + count (λ m. not (p m)) n ≡ n
+unfolding count
+count-not zero p = refl
+count-not (suc n) p =
+    by-cases (p n) (λ e. rw e (omega (arith, count-not n p))) (λ e. rw e (omega (arith, count-not n p)))
 
 pub none-counted : (n : ℕ) (p : ℕ → Bool) → count p n ≡ 0 → (m : ℕ) → m < n → p m ≡ false
 none-counted n p h m l = by-cases (p m) (λ e. absurd (omega (arith, count-some n p m l e))) (λ e. e)

@@ -7,7 +7,7 @@ use native.Mathlib.Omega.{arith}
 use native.Mathlib.Decide.{ℕ-discrete}
 use Rattle.counting.proofs.Laws.Tests.{by-cases}
 use Rattle.counting.specs.Counting.{one, sum, count}
-use Rattle.counting.proofs.Laws.Counting.{sum-one-more, sum-each, count-some}
+use Rattle.counting.proofs.Laws.Counting.{sum-one-more, sum-each, sum-swap, count-some}
 
 -- ---- sums
 
@@ -50,7 +50,7 @@ filled (suc n) F p c h =
     (λ e. rw e (omega (arith, filled n F p c (λ i l. h i (omega arith)))))
 
 -- at least F at each that passes but a, where there is one at least
-pub crowded :
+crowded :
     (n F : ℕ) (p : ℕ → Bool) (c : ℕ → ℕ) (a : ℕ) → a < n → p a ≡ true → 1 ≤ c a → ((i : ℕ) → i < n → i ≢ a → p i ≡ true → F ≤ c i)
     → (count p n - 1) * F + 1 ≤ sum c n
 unfolding sum count
@@ -70,3 +70,18 @@ crowded (suc n) F p c a l t k h =
           rw (y, q) (omega (arith, h n (omega arith) (λ d. e (sym d)) y)))
           (λ y. let q : (count p n + 0) - 1 ≡ count p n - 1 = omega arith in rw (y, q) (omega arith)))
     ]
+
+-- Copies are counted by node n and item i, at most k of each item and fewer of item b, of which node a has one. If the
+-- nodes that pass have F frames each and, without a, k × M − 1 together, then not all of these are full.
+pub not-all-full :
+    (N M F k : ℕ) (p : ℕ → Bool) (copies : ℕ → ℕ → ℕ) (a b : ℕ) → a < N → p a ≡ true → b < M → 1 ≤ copies a b
+    → ((i : ℕ) → i < M → sum (λ n. copies n i) N ≤ k) → sum (λ n. copies n b) N < k → k * M - 1 ≤ (count p N - 1) * F
+    → ((n : ℕ) → n < N → n ≢ a → p n ≡ true → F ≤ sum (copies n) M) → ⊥
+not-all-full N M F k p copies a b la ta lb own most fewer room full =
+    omega (
+      arith,
+      room,
+      sum-swap copies N M,
+      sum-fewer M k (λ i. sum (λ n. copies n i) N) b lb most fewer,
+      crowded N F p (λ n. sum (copies n) M) a la ta (omega (arith, own, sum-at M (copies a) b lb)) full,
+    )

@@ -52,7 +52,7 @@ module _ (g : Geometry) (v : View) (n s b : ℕ) {set : ℕ} (h : set ≡ setOf 
   frames-elsewhere e = rw (← h, ne-eqb set s e)
 
 module _ (g : Geometry) (v : View) (n : ℕ) where
-  frames-within : (s b : ℕ) → framesAt g v n s b ≤ framesIn (v .entry n b .state)
+  pub frames-within : (s b : ℕ) → framesAt g v n s b ≤ framesIn (v .entry n b .state)
   unfolding framesAt
   frames-within s b = by-cases (eqb (setOf g b) s) (λ e. rw e (omega arith)) (λ e. rw e (omega arith))
 

@@ -1,10 +1,9 @@
 -- Laws of `specs/Report.antt`: the words that a table needs.
-use Prim.Native.Nat.{ℕ, _-_, _*_, _<_, _≤_}
+use Prim.Native.Nat.{ℕ, _*_, _<_}
 use mathlib.Core.Path.{_≡_, refl, sym, ap, _∙_}
 use mathlib.Core.Bool.{true}
 use native.Mathlib.Omega.{arith}
-use native.Mathlib.Nat.{mul-le-mul}
-use borrow.Author.Tests.{le-leb, le-ltb}
+use borrow.Author.Tests.{eq-eqb, le-leb}
 use Rattle.counting.proofs.Laws.Tests.{both, by-cases}
 use Rattle.table.specs.declared.geometry.Geometry.{Geometry}
 use Rattle.table.specs.declared.geometry.Made.{Made}
@@ -41,7 +40,6 @@ module _ (n m : ℕ) {made : Made} (e : made ≡ geometryOf n m (2 * m)) where
 pub all-places : (n m f : ℕ) → allowed n m f ≡ true → allowed n m (2 * m) ≡ true
 all-places n m f h =
     let s = sized n m f (both (inRanges n m f) h .0) in
-    let k : 1 * (2 * m) ≤ (n - 2) * (2 * m) = mul-le-mul (omega (arith, s .nodes-low)) (omega arith) in
     rw (
       le-leb 3 n (s .nodes-low),
       le-leb n 16 (s .nodes-high),
@@ -49,7 +47,7 @@ all-places n m f h =
       le-leb m 256 (s .items-high),
       le-leb 1 (2 * m) (omega (arith, s .items-low)),
       le-leb (2 * m) 512 (omega (arith, s .items-high)),
-      le-ltb ((n - 2) * (2 * m)) (2 * m - 1) (omega (arith, k)),
+      eq-eqb (2 * m) (2 * m) refl,
     ) refl
 
 -- every geometry of these nodes and items has these words

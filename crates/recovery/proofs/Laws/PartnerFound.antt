@@ -9,7 +9,7 @@ use lib.Dec.{eqb, ltb}
 use borrow.Author.Tests.{eqb-true, eq-eqb, ltb-true, ltb-false}
 use Rattle.counting.proofs.Laws.Tests.{both, no-both, by-cases, or-left, or-right, and-no-right}
 use Rattle.counting.specs.Counting.{one, sum, count, first}
-use Rattle.counting.proofs.Laws.Counting.{sum-ext, Only, only-counts, sum-swap, sum-count}
+use Rattle.counting.proofs.Laws.Counting.{sum-ext, Only, only-counts, sum-count}
 use Rattle.counting.proofs.Laws.Cyclic.{FoundAfter, after-found, after-none}
 use Rattle.table.specs.declared.geometry.Geometry.{Geometry}
 use Rattle.table.specs.Words.{invalid, sharedCK1, sharedCK2}
@@ -20,7 +20,7 @@ use Rattle.entries.specs.Tally.{has, copy}
 use Rattle.entries.proofs.Laws.Kinds.{copy-code, copy-live, no-copy}
 use Rattle.entries.proofs.Laws.Codes.{two-codes, all-codes}
 use Rattle.homes.proofs.Laws.Kept.{Live, live-test, test-live}
-use Rattle.counting.proofs.Laws.Crowded.{sum-at, sum-fewer, crowded}
+use Rattle.counting.proofs.Laws.Crowded.{not-all-full}
 use Rattle.survivors.specs.Survivors.{survivorCount, tooFewWith, tooFew}
 use Rattle.recovery.specs.Numbering.{takes, partnerOf}
 use Rattle.recovery.proofs.Laws.Ready.{Plain, Paired, Numbered, pair, alone}
@@ -71,20 +71,6 @@ module _ (g : Geometry) (saved : ℕ → ℕ) (w u : View) (plain : Plain g save
 
   module _ (enough : tooFew g w ≡ false) (items : (b : ℕ) → b < g .items → Numbered g u b) (b a : ℕ) (hb : b < g .items)
       (o : Only (g .nodes) (copy u b) a) where
-    -- all copies
-    total : sum holds (g .nodes) < g .items * 2
-    total =
-        let swap : sum holds (g .nodes) ≡ sum (λ c. sum (λ n. one (copy u c n)) (g .nodes)) (g .items) =
-        sum-swap (λ n c. one (copy u c n)) (g .nodes) (g .items) in
-        rw swap
-        (sum-fewer (g .items) 2 (λ c. sum (λ n. one (copy u c n)) (g .nodes)) b hb
-        (λ c l. rw (sum-count (copy u c) (g .nodes)) (few-copies c l (items c l)))
-        (rw (sum-count (copy u b) (g .nodes), only-counts (g .nodes) (copy u b) a o) (omega arith)))
-
-    -- it has one itself
-    own : 1 ≤ holds a
-    own = let l = sum-at (g .items) (λ c. one (copy u c a)) b hb in let e = ap one (o .holds) in omega arith
-
     same-count : survivorCount g w ≡ count (live u) (g .nodes)
     unfolding survivorCount
     same-count = ap (λ (m : ℕ → ℕ). count (λ n. not (eqb (m n) 0)) (g .nodes)) (sym (plain .marks))
@@ -106,12 +92,11 @@ module _ (g : Geometry) (saved : ℕ → ℕ) (w u : View) (plain : Plain g save
 
     some-takes : ((n : ℕ) → n < g .nodes → n ≢ a → takes g u b n ≡ false) → ⊥
     some-takes none =
-        omega (
-          arith,
-          total,
-          enough-room,
-          crowded (g .nodes) (g .frames) (live u) holds a (o .within) (copy-live u b a (o .holds)) own (λ n l d t. full n l d t (none n l d)),
-        )
+        not-all-full (g .nodes) (g .items) (g .frames) 2 (live u) (λ n c. one (copy u c n)) a b (o .within)
+        (copy-live u b a (o .holds)) hb (omega (arith, ap one (o .holds)))
+        (λ c l. rw (sum-count (copy u c) (g .nodes)) (few-copies c l (items c l)))
+        (rw (sum-count (copy u b) (g .nodes)) (omega (arith, only-counts (g .nodes) (copy u b) a o)))
+        enough-room (λ n l d t. full n l d t (none n l d))
 
     -- the partner found: the first other node that can take it; so it is live, without the item, with a frame free
     pub record Partner (m : ℕ) : Type 0 where

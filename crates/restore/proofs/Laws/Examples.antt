@@ -51,4 +51,4 @@ unfolding every sum count first firstOr valuesOf geometryOf changeOf runs after 
     single holderOf takes partnerOf partnerChanges partnerFrom partnerStores staged partnersStores largest
     largestNumber closingStores followed survivorStores recoverStores survivorsFormed tooFewWith tooFew
     recoverAdmission recoverChecked recoverOf planOf run Given
-examples-given = (refl, (refl, (refl, (refl, (refl, (refl, (refl, (refl, (refl, (refl, (refl, (refl, (refl, (refl, (refl, (refl, (refl, (refl, (refl, (refl, (refl, (refl, (refl, (refl, (refl, (refl, (refl, tt)))))))))))))))))))))))))))
+examples-given = (refl, (refl, (refl, (refl, (refl, (refl, (refl, (refl, (refl, (refl, (refl, (refl, (refl, (refl, (refl, (refl, (refl, (refl, (refl, (refl, (refl, (refl, (refl, (refl, (refl, (refl, (refl, (refl, (refl, (refl, (refl, (refl, (refl, (refl, (refl, (refl, (refl, tt)))))))))))))))))))))))))))))))))))))

@@ -1,14 +1,14 @@
 -- The laws of `specs/Geometry.antt`.
 use Prim.Native.Nat.{ℕ, _+_, _-_, _*_, _/_, _%_, _<_, _≤_}
 use mathlib.Core.Path.{_≡_, refl, sym, ap, _∙_}
-use mathlib.Core.Logic.{_≢_}
+use mathlib.Core.Logic.{_≢_, _⊎_, inl, inr, ⊎-elim}
 use mathlib.Core.Bool.{true}
 use native.Mathlib.Omega.{arith}
 use native.Mathlib.Nat.{mul-le-mul}
 use lib.Arith.{digits-div, digits-mod, digits-lt}
-use lib.Dec.{leb}
-use borrow.Author.Tests.{leb-true, ltb-false, not-true}
-use Rattle.counting.proofs.Laws.Tests.{both, by-cases}
+use lib.Dec.{eqb, leb}
+use borrow.Author.Tests.{eqb-true, leb-true}
+use Rattle.counting.proofs.Laws.Tests.{both, either, by-cases}
 use Rattle.table.specs.declared.geometry.Geometry.{Geometry}
 use Rattle.table.specs.declared.geometry.Made.the-variants.{Allowed, NotAllowed}
 use Rattle.table.specs.Geometry.{inRanges, allowed, geometryOf, wordsOf, entryAt}
@@ -51,9 +51,19 @@ sized n m f h =
     let e = both (leb 1 f) (d .1) in
     omega (arith, leb-true)
 
--- the frames of two nodes fewer hold every copy but one
+-- a frame for every place, or frames for four copies of an item
+pub four-copies : (n m f : ℕ) → allowed n m f ≡ true → (f ≡ 2 * m) ⊎ (4 * m - 1 ≤ (n - 2) * f)
+four-copies n m f h = either (eqb f (2 * m)) (both (inRanges n m f) h .1)
+    (λ e. inl (eqb-true f (2 * m) e)) (λ e. inr (leb-true (4 * m - 1) ((n - 2) * f) e))
+
+-- so the frames of all nodes but two hold two copies of every item, but one copy
 pub roomy : (n m f : ℕ) → allowed n m f ≡ true → 2 * m - 1 ≤ (n - 2) * f
-roomy n m f h = ltb-false ((n - 2) * f) (2 * m - 1) (not-true _ (both (inRanges n m f) h .1))
+roomy n m f h = ⊎-elim
+    (λ e. let s = sized n m f (both (inRanges n m f) h .0) in
+    let k : 1 * f ≤ (n - 2) * f = mul-le-mul (omega (arith, s .nodes-low)) (omega arith) in
+    omega (arith, e, k))
+    (λ e. omega (arith, e))
+    (four-copies n m f h)
 
 -- a geometry that was made is allowed, and has the numbers that were asked for
 pub made-allowed : (n m f : ℕ) (g : Geometry) → geometryOf n m f ≡ Allowed g → (allowed n m f ≡ true) × (g ≡ record { nodes = n; items = m; frames = f })
