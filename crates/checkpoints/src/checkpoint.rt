@@ -13,7 +13,7 @@ use table::geometry::Geometry;
 use table::{stores, words};
 
 // The two ways in which an open checkpoint ends.
-#[derive(Drop)]
+#[derive(Clone, Copy)]
 pub enum Closing {
     Committed,
     Abandoned,

@@ -11,7 +11,7 @@ ghost use Rattle.std.specs.Prelude.{◌≡◌};
 ghost use Rattle.counting.specs.Cyclic.{next_node, cursor_after, cursor_step};
 
 // Where a search has come to: a node, and how many nodes are still to be tried, this one among them.
-#[derive(Drop)]
+#[derive(Clone, Copy)]
 pub struct Cursor {
     pub node: u8,
     pub untried: u8,

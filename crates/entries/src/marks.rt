@@ -7,7 +7,7 @@ use table::geometry::Geometry;
 use table::{stores, words};
 
 // The mark of the first live node, or 0, and whether all live nodes have it.
-#[derive(Drop)]
+#[derive(Clone, Copy)]
 pub struct Marks {
     pub first: u64,
     pub equal: bool,

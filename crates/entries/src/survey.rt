@@ -17,14 +17,14 @@ use table::stores;
 
 // What entries tell: the frames that they use, and 1024 for each whose codes are out of form; the other bits of their
 // state words and those in which their values differ from the ones before.
-#[derive(Drop)]
+#[derive(Clone, Copy)]
 struct Turn {
     frames: u64,
     differ: u64,
 }
 
 // Whether all is sound, and the lowest item with an Owner or a Modified, or the number of items.
-#[derive(Drop)]
+#[derive(Clone, Copy)]
 pub(crate) struct Findings {
     pub sound: bool,
     pub dirty: u64,

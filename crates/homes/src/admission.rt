@@ -6,7 +6,7 @@ ghost use Rattle.homes.specs.Admission.{admission_of, frame_full};
 use table::answers::Refusal;
 use table::geometry::Geometry;
 
-#[derive(Drop)]
+#[derive(Clone, Copy)]
 pub enum Admission {
     Admitted,
     Turned(Refusal),

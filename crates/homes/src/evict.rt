@@ -15,7 +15,7 @@ use table::geometry::Geometry;
 use table::words::INVALID;
 
 // Which way a copy leaves: it stays, and the call is turned down; it is dropped; or it goes to a node.
-#[derive(Drop)]
+#[derive(Clone, Copy)]
 pub enum Way {
     Stays(Refusal),
     Drops,

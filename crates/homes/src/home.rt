@@ -12,7 +12,7 @@ use table::words::{INVALID, SHARED};
 
 // What a home makes of a copy that comes: whether it takes it over; whether it drops a Shared copy first, of which
 // item, and the state word that it is dropped from; its own places of the copy's item from then on.
-#[derive(Drop)]
+#[derive(Clone, Copy)]
 pub struct Arrival {
     pub takeover: bool,
     pub drops: bool,

@@ -6,7 +6,7 @@ ghost use Rattle.homes.specs.Places.{place_by, code_of, shared_in, value_in};
 use table::geometry::Geometry;
 use table::words::SHARED;
 
-#[derive(Drop)]
+#[derive(Clone, Copy)]
 pub enum Place {
     Current,
     Kept,

@@ -10,7 +10,7 @@ use table::answers::{Answer, Refusal};
 use table::geometry::Geometry;
 
 // Where a node's entries lie, or why they are not given.
-#[derive(Drop)]
+#[derive(Clone, Copy)]
 pub enum Span {
     Entries { start: usize, end: usize },
     Refused(Refusal),

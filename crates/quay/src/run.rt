@@ -8,7 +8,7 @@ use steps::serve::Progress;
 const CHUNKS: u64 = 0x20_0000_0000_0000;
 
 // What a chunk leaves: the progress, and whether another chunk may follow.
-#[derive(Drop)]
+#[derive(Clone, Copy)]
 struct Left {
     progress: Progress,
     more: bool,

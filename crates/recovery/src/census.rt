@@ -16,7 +16,7 @@ use table::words;
 
 // What a row tells: whether the state words have their form, the frames in use, how many recovery copies of the side
 // are there, and whether each has the value of the first of its item.
-#[derive(Drop)]
+#[derive(Clone, Copy)]
 pub(crate) struct Turn {
     pub(crate) forms: bool,
     pub(crate) frames: usize,
@@ -26,7 +26,7 @@ pub(crate) struct Turn {
 
 // What an entry tells: its weight, the other bits of its state word, and those in which a recovery copy of the side
 // differs from the first of its item.
-#[derive(Drop)]
+#[derive(Clone, Copy)]
 pub(crate) struct Note {
     pub(crate) weight: u64,
     pub(crate) low: u64,
@@ -35,7 +35,7 @@ pub(crate) struct Note {
 
 // What all survivors tell: whether word forms and frames hold, whether each item has a recovery copy on the side and
 // no two that differ, and whether no item has two of one number.
-#[derive(Drop)]
+#[derive(Clone, Copy)]
 pub(crate) struct Census {
     pub(crate) formed: bool,
     pub(crate) fit: bool,
@@ -280,7 +280,7 @@ fn note_row(
 
 // What a node's turn tells of the survivors: whether mark, state words and frames hold, and whether its recovery
 // copies agree with those before.
-#[derive(Drop)]
+#[derive(Clone, Copy)]
 pub(crate) struct Found {
     pub(crate) formed: bool,
     pub(crate) agree: bool,
@@ -346,7 +346,7 @@ fn note_nodes(
 }
 
 // What the tallies tell: whether each item has a recovery copy, and whether none has two of one number.
-#[derive(Drop)]
+#[derive(Clone, Copy)]
 pub(crate) struct Kinds {
     pub(crate) seen: bool,
     pub(crate) plain: bool,

@@ -16,7 +16,7 @@ use table::geometry::Geometry;
 use table::{changes, stores, words};
 
 // How many survivors hold an item as Shared-CK1, and how many as Shared-CK2.
-#[derive(Drop)]
+#[derive(Clone, Copy)]
 pub struct Holders {
     pub first: u64,
     pub second: u64,

@@ -9,7 +9,7 @@ use table::answers::Answer;
 // in a program's own memory. On memory that outlives the program the limit is a number known at run time only.
 pub const WHOLE: u64 = 0xffff_ffff_ffff_ffff;
 
-#[derive(Drop)]
+#[derive(Clone, Copy)]
 pub enum Call {
     Format { nodes: u64, items: u64, frames: u64 },
     Check,

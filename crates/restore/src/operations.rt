@@ -27,7 +27,7 @@ pub const CHECK: u64 = 16;
 pub const STRETCH: u64 = 17;
 
 // What a number names: a call, or none.
-#[derive(Drop)]
+#[derive(Clone, Copy)]
 pub enum Operation {
     Known(Call),
     Unknown,

@@ -8,7 +8,7 @@ use restore::operations::Operation;
 use table::words;
 
 // What a record asks for: a call, or nothing that is in form.
-#[derive(Drop)]
+#[derive(Clone, Copy)]
 pub enum Step {
     Asked(Call),
     Malformed,

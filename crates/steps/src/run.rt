@@ -11,7 +11,7 @@ use crate::{lines, records, serve};
 pub const CHUNK: usize = 1024;
 
 // The progress after records, and how many bytes their lines have.
-#[derive(Drop)]
+#[derive(Clone, Copy)]
 pub struct Ran {
     pub progress: Progress,
     pub count: usize,

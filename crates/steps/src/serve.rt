@@ -12,14 +12,14 @@ use table::answers;
 use table::answers::{Answer, Numbers};
 
 // How far a run has come: whether a format was accepted, and the records that were served.
-#[derive(Drop)]
+#[derive(Clone, Copy)]
 pub struct Progress {
     pub formatted: bool,
     pub records: u64,
 }
 
 // The numbers of a record's line, and the progress after it.
-#[derive(Drop)]
+#[derive(Clone, Copy)]
 pub struct Served {
     pub numbers: Numbers,
     pub progress: Progress,

@@ -2,7 +2,7 @@
 ghost use Rattle.std.specs.Prelude.{◌≡◌};
 ghost use Rattle.survivors.specs.Survivors.{lost_by};
 
-#[derive(Drop)]
+#[derive(Clone, Copy)]
 pub enum Lost {
     Nobody,
     Node(u64),

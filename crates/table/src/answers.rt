@@ -3,7 +3,7 @@ ghost use Rattle.std.specs.Prelude.{◌≡◌};
 ghost use Rattle.table.specs.Answers.{refusal_number, numbers_of};
 
 // Why a call is turned down; `refusal_number` in specs/Answers.antt gives document 01's numbers.
-#[derive(Drop)]
+#[derive(Clone, Copy)]
 pub enum Refusal {
     EmptyOrShort,
     NotSound,
@@ -25,7 +25,7 @@ pub enum Refusal {
 }
 
 // Carried out, with document 01's value and count of stores; document 01's 17, nothing left to create; or turned down.
-#[derive(Drop)]
+#[derive(Clone, Copy)]
 pub enum Answer {
     Done { value: u64, stores: u64 },
     NothingLeft,
@@ -33,7 +33,7 @@ pub enum Answer {
 }
 
 // Document 01's answer, value and count of stores.
-#[derive(Drop)]
+#[derive(Clone, Copy)]
 pub struct Numbers {
     pub answer: u64,
     pub value: u64,

@@ -4,7 +4,7 @@ ghost use Rattle.table.specs.Changes.{changes, change_of, column_of, checkpoint_
 
 use crate::words;
 
-#[derive(Drop)]
+#[derive(Clone, Copy)]
 pub enum Event {
     OtherReads,
     OtherWrites,

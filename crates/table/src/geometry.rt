@@ -3,7 +3,7 @@ ghost use Rattle.std.specs.Prelude.{◌≡◌};
 ghost use Rattle.table.specs.Geometry.{geometry_of, words_of, Placed};
 
 // Nodes N, items M, frames per node F. Types this narrow keep every address from overflowing.
-#[derive(Drop)]
+#[derive(Clone, Copy)]
 pub struct Geometry {
     pub nodes: u8,
     pub items: u16,
@@ -11,7 +11,7 @@ pub struct Geometry {
 }
 
 // A geometry, or that the numbers give none.
-#[derive(Drop)]
+#[derive(Clone, Copy)]
 pub enum Made {
     Allowed(Geometry),
     NotAllowed,

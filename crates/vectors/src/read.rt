@@ -6,7 +6,7 @@ const MOST: usize = 8000;
 
 // A vector's header. The table's words follow, then the places and the words of those that the call changes, then the
 // scratch before and after.
-#[derive(Drop)]
+#[derive(Clone, Copy)]
 pub(crate) struct Vector {
     pub operation: u64,
     pub first: u64,

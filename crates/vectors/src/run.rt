@@ -17,14 +17,14 @@ const ROOM: u64 = 300;
 const VECTORS: u64 = 0x1000_0000_0000_0000;
 
 // The vectors that ran, and those of them that differ.
-#[derive(Drop)]
+#[derive(Clone, Copy)]
 pub(crate) struct Tally {
     pub vectors: u64,
     pub different: u64,
 }
 
 // What came of a vector.
-#[derive(Drop)]
+#[derive(Clone, Copy)]
 enum Outcome {
     Same,
     Differs,
@@ -108,7 +108,7 @@ fn run_vector(fd: i32, number: u64, v: Vector) -> Outcome {
 }
 
 // How far a run has come, and whether another vector may follow.
-#[derive(Drop)]
+#[derive(Clone, Copy)]
 struct Progress {
     tally: Tally,
     more: bool,
