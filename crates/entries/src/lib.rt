@@ -1,4 +1,6 @@
 // The entries of a table: the frames in use, the table checks.
+#![tactic(auto)]
+
 pub mod check;
 pub mod frames;
 mod marks;

@@ -1,4 +1,6 @@
 // The calls on a table as a whole: Format, Check, Stretch.
+#![tactic(auto)]
+
 pub mod check;
 pub mod format;
 mod rows;

@@ -1,4 +1,6 @@
 // Reads the records of steps.bin, carries out each, and prints a line for it: record, answer, value, stores.
+#![tactic(auto)]
+
 mod run;
 
 fn main() {

@@ -1,4 +1,6 @@
 // Recovery after the loss of a node, or of none.
+#![tactic(auto)]
+
 mod census;
 mod marks;
 mod numbering;

@@ -1,5 +1,7 @@
 // Runs the single calls of vectors.bin on the engine, prints each difference from what the file expects, and at the
 // end how many vectors ran and how many differ.
+#![tactic(auto)]
+
 mod compare;
 mod read;
 mod run;

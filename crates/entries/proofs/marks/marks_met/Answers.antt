@@ -1,0 +1,18 @@
+-- `marks::marks_met` meets its contract: the loop has met the marks before `node`. Assumes nothing.
+use Prim.Native.Nat.{◌-◌}
+use mathlib.Core.Logic.{⊎_elim}
+use borrow.Author.Rules.{rules}
+use Rattle.entries.proofs.Laws.MarksLoop.{marking_none, marking_first, marking_next, marking_all}
+use Rattle.entries.proofs.marks.marks_met.Goals as goal
+
+pub loop-node-init : goal.loop-node-init
+loop-node-init c = (search rules, marking_none _)
+
+pub loop-node-preserved : goal.loop-node-preserved
+loop-node-preserved c =
+    let m = c.loop-node.invariant.1 in
+    let e = c.mark_at-mark.ensures in
+    (search rules, ⊎_elim (λ w. marking_first _ _ _ _ m _ e _ w.0.taken w.1) (λ w. marking_next _ _ _ _ m _ e _ w.0.left w.1) c.if-first-eq0.branch)
+
+pub returns : goal.returns
+returns c = let i = c.loop-node.invariant in marking_all _ _ _ _ _ i.1 i.0 c.loop-node-test.false

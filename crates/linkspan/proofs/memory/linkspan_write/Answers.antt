@@ -1,0 +1,6 @@
+-- `linkspan_write` meets its contract: the call that it wraps. Assumes nothing.
+use Rattle.linkspan.proofs.Laws.Report.{reports_call}
+use Rattle.linkspan.proofs.memory.linkspan_write.Goals as goal
+
+pub returns : goal.returns
+returns c = search reports_call

@@ -1,8 +1,0 @@
--- `linkspan_abandon` meets its contract: the call that it wraps. Assumes nothing.
-use Rattle.linkspan.proofs.Laws.Report.{reports_call}
-use borrow.Author.Rules.{rules}
-use Rattle.linkspan.proofs.points.linkspan_abandon.Statement.{statement}
-use Rattle.linkspan.proofs.points.linkspan_abandon.Tie as tie
-
-pub linkspan_abandon_spec : {M : Type 1} → statement M
-linkspan_abandon_spec = tie.close (tie.spec (λ c κs. search rules) (λ c κs. search rules) (λ c. search rules) (λ c. search reports_call))

@@ -1,8 +1,0 @@
--- `linkspan_open` meets its contract: the call that it wraps. Assumes nothing.
-use Rattle.linkspan.proofs.Laws.Report.{reports_call}
-use borrow.Author.Rules.{rules}
-use Rattle.linkspan.proofs.points.linkspan_open.Statement.{statement}
-use Rattle.linkspan.proofs.points.linkspan_open.Tie as tie
-
-pub linkspan_open_spec : {M : Type 1} → statement M
-linkspan_open_spec = tie.close (tie.spec (λ c κs. search rules) (λ c κs. search rules) (λ c. search rules) (λ c. search reports_call))

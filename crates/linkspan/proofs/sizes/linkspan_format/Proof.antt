@@ -1,8 +1,0 @@
--- `linkspan_format` meets its contract: the call that it wraps. Assumes nothing.
-use Rattle.linkspan.proofs.Laws.Report.{reports_call}
-use borrow.Author.Rules.{rules}
-use Rattle.linkspan.proofs.sizes.linkspan_format.Statement.{statement}
-use Rattle.linkspan.proofs.sizes.linkspan_format.Tie as tie
-
-pub linkspan_format_spec : {M : Type 1} → statement M
-linkspan_format_spec = tie.close (tie.spec (λ c κs. search rules) (λ c κs. search rules) (λ c. search rules) (λ c. search reports_call))
