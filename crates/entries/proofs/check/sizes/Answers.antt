@@ -14,23 +14,23 @@ returns-then-table-eq0 c = sizes_empty _ c.if-table-eq0.true
 
 pub returns-then-not-size_form : goal.returns-then-not-size_form
 returns-then-not-size_form c =
-    let bad_form : size_form (get_or c.args.table.now 0 0) ≡ false = ap size_form (sym c.word-w.ensures) ∙ sym c.size_form.ensures ∙ not-true _ c.if-not-size_form.true in
+    let bad_form : size_form (get_or c.args.table.now 0 0) ≡ false = ap size_form (sym c.word-w.ensures) ∙ sym c.size_form.ensures ∙ c.if-not-size_form.true in
     sizes_form _ c.if-table-eq0.false bad_form
 
 pub returns-then-table-words : goal.returns-then-table-words
 returns-then-table-words c =
-    let form : size_form (get_or c.args.table.now 0 0) ≡ true = ap size_form (sym c.word-w.ensures) ∙ sym c.size_form.ensures ∙ not-false _ c.if-not-size_form.false in
+    let form : size_form (get_or c.args.table.now 0 0) ≡ true = ap size_form (sym c.word-w.ensures) ∙ sym c.size_form.ensures ∙ c.if-not-size_form.false in
     let made : c.new-made.result ≡ made_of c.args.table.now = c.new-made.ensures ∙ rw (c.frames_of-frames.ensures, c.items_of-items.ensures, c.nodes_of-nodes.ensures, c.word-w.ensures) in
     sizes_short _ c.if-table-eq0.false form _ (sym made ∙ c.in-Allowed.is) (omega (arith, c.words.ensures))
 
 pub returns-in-NotAllowed : goal.returns-in-NotAllowed
 returns-in-NotAllowed c =
-    let form : size_form (get_or c.args.table.now 0 0) ≡ true = ap size_form (sym c.word-w.ensures) ∙ sym c.size_form.ensures ∙ not-false _ c.if-not-size_form.false in
+    let form : size_form (get_or c.args.table.now 0 0) ≡ true = ap size_form (sym c.word-w.ensures) ∙ sym c.size_form.ensures ∙ c.if-not-size_form.false in
     let made : c.new-made.result ≡ made_of c.args.table.now = c.new-made.ensures ∙ rw (c.frames_of-frames.ensures, c.items_of-items.ensures, c.nodes_of-nodes.ensures, c.word-w.ensures) in
     sizes_refused _ c.if-table-eq0.false form (sym made ∙ c.in-NotAllowed.is)
 
 pub returns-else-table-words : goal.returns-else-table-words
 returns-else-table-words c =
-    let form : size_form (get_or c.args.table.now 0 0) ≡ true = ap size_form (sym c.word-w.ensures) ∙ sym c.size_form.ensures ∙ not-false _ c.if-not-size_form.false in
+    let form : size_form (get_or c.args.table.now 0 0) ≡ true = ap size_form (sym c.word-w.ensures) ∙ sym c.size_form.ensures ∙ c.if-not-size_form.false in
     let made : c.new-made.result ≡ made_of c.args.table.now = c.new-made.ensures ∙ rw (c.frames_of-frames.ensures, c.items_of-items.ensures, c.nodes_of-nodes.ensures, c.word-w.ensures) in
     sizes_passed _ c.if-table-eq0.false form _ (sym made ∙ c.in-Allowed.is) (omega (arith, c.words.ensures))

@@ -197,4 +197,4 @@ pub returns-in-63 : goal.returns-in-63
 returns-in-63 c = sym (ap weight_of c.in-63.is)
 
 pub returns-in_default : goal.returns-in_default
-returns-in_default c = absurd (none_left _ c.requires c.in_default.rest)
+returns-in_default c = absurd (none_left _ c.requires c.in_default.in_default-own.rest)

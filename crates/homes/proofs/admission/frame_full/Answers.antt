@@ -4,7 +4,7 @@ use borrow.Author.Tests.{not-true, not-false}
 use Rattle.homes.proofs.admission.frame_full.Goals as goal
 
 pub returns-then-not-needed : goal.returns-then-not-needed
-returns-then-not-needed c = frame_spared _ _ _ _ (not-true _ c.if-not-needed.true)
+returns-then-not-needed c = frame_spared _ _ _ _ c.if-not-needed.true
 
 pub returns : goal.returns
-returns c = frame_asked _ _ _ _ (not-false _ c.if-not-needed.false) c.frame_free-free.ensures
+returns c = frame_asked _ _ _ _ c.if-not-needed.false c.frame_free-free.ensures

@@ -28,7 +28,7 @@ returns-in-6 c = row_at _ 6 c.in-6.is refl
 
 pub returns-in_default : goal.returns-in_default
 returns-in_default c =
-    let n = c.in_default.rest in
+    let n = c.in_default.in_default-own.rest in
     let low : 3 < c.args.state % 8 = omega (arith, n.0.0.0.1, n.0.0.0.0.1, n.0.0.0.0.0.1, n.0.0.0.0.0.0.1) in
     let last : c.args.state % 8 ≡ 7 = omega (arith, n.1, n.0.1, n.0.0.1) in
     row_at _ 7 last refl
