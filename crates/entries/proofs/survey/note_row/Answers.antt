@@ -15,15 +15,15 @@ loop-k-init c = (refl, λ g r. (0, row_starts r))
 pub offset_bounds-list-k : goal.offset_bounds-list-k
 offset_bounds-list-k c =
     let set : let a = c.args in let o = c.occupied-count in
-    RowSet a.g a.table.now a.node o.last.1.1.1.0 a.notes.now c.entry_at-start.result o.result = let o = c.occupied-count in
-    row_set c.requires c.entry_at-start.ensures o.kept.1.1.1.0 o.ensures in
+    RowSet a.g a.table.now a.node o.new.list a.notes.now c.entry_at-start.result o.result = let o = c.occupied-count in
+    row_set c.requires c.entry_at-start.ensures o.auto.list o.ensures in
     record { fits = omega (arith, row_few set c.loop-k-test.true) }
 
 pub bounds-list-k : goal.bounds-list-k
 bounds-list-k c =
     let set : let a = c.args in let o = c.occupied-count in
-    RowSet a.g a.table.now a.node o.last.1.1.1.0 a.notes.now c.entry_at-start.result o.result = let o = c.occupied-count in
-    row_set c.requires c.entry_at-start.ensures o.kept.1.1.1.0 o.ensures in
+    RowSet a.g a.table.now a.node o.new.list a.notes.now c.entry_at-start.result o.result = let o = c.occupied-count in
+    row_set c.requires c.entry_at-start.ensures o.auto.list o.ensures in
     row_listed set c.loop-k-test.true
 
 pub overflow_cast-j : goal.overflow_cast-j
@@ -32,16 +32,16 @@ overflow_cast-j c = omega (arith, c.slice_known-in-loop-k-1.given c.loop-k.k)
 pub overflow_add-start : goal.overflow_add-start
 overflow_add-start c =
     let set : let a = c.args in let o = c.occupied-count in
-    RowSet a.g a.table.now a.node o.last.1.1.1.0 a.notes.now c.entry_at-start.result o.result = let o = c.occupied-count in
-    row_set c.requires c.entry_at-start.ensures o.kept.1.1.1.0 o.ensures in
+    RowSet a.g a.table.now a.node o.new.list a.notes.now c.entry_at-start.result o.result = let o = c.occupied-count in
+    row_set c.requires c.entry_at-start.ensures o.auto.list o.ensures in
     let r = set in
     record { fits = turn_fits r (row_turns r (c.loop-k.invariant.1 _ r).1 c.loop-k-test.true refl).1 }
 
 pub note_entry-turn-requires : goal.note_entry-turn-requires
 note_entry-turn-requires c =
     let set : let a = c.args in let o = c.occupied-count in
-    RowSet a.g a.table.now a.node o.last.1.1.1.0 a.notes.now c.entry_at-start.result o.result = let o = c.occupied-count in
-    row_set c.requires c.entry_at-start.ensures o.kept.1.1.1.0 o.ensures in
+    RowSet a.g a.table.now a.node o.new.list a.notes.now c.entry_at-start.result o.result = let o = c.occupied-count in
+    row_set c.requires c.entry_at-start.ensures o.auto.list o.ensures in
     let fits : (i : ℕ) → get_or c.args.table.now i 0 < 2 ^ 64 = λ i. omega (arith, c.shared_slice_known-1.given i) in
     let r = set in
     turn_asks r (row_turns r (c.loop-k.invariant.1 _ r).1 c.loop-k-test.true refl).1 fits
@@ -49,8 +49,8 @@ note_entry-turn-requires c =
 pub overflow_add-frames : goal.overflow_add-frames
 overflow_add-frames c =
     let set : let a = c.args in let o = c.occupied-count in
-    RowSet a.g a.table.now a.node o.last.1.1.1.0 a.notes.now c.entry_at-start.result o.result = let o = c.occupied-count in
-    row_set c.requires c.entry_at-start.ensures o.kept.1.1.1.0 o.ensures in
+    RowSet a.g a.table.now a.node o.new.list a.notes.now c.entry_at-start.result o.result = let o = c.occupied-count in
+    row_set c.requires c.entry_at-start.ensures o.auto.list o.ensures in
     let fits : (i : ℕ) → get_or c.args.table.now i 0 < 2 ^ 64 = λ i. omega (arith, c.shared_slice_known-1.given i) in
     let r = set in
     record { fits = turn_frames r (row_turns r (c.loop-k.invariant.1 _ r).1 c.loop-k-test.true refl).1 fits c.note_entry-turn.ensures }
@@ -68,7 +68,7 @@ loop-k-preserved c =
 pub returns : goal.returns
 returns c =
     let set : let a = c.args in let o = c.occupied-count in
-    RowSet a.g a.table.now a.node o.last.1.1.1.0 a.notes.now c.entry_at-start.result o.result = let o = c.occupied-count in
-    row_set c.requires c.entry_at-start.ensures o.kept.1.1.1.0 o.ensures in
+    RowSet a.g a.table.now a.node o.new.list a.notes.now c.entry_at-start.result o.result = let o = c.occupied-count in
+    row_set c.requires c.entry_at-start.ensures o.auto.list o.ensures in
     let r = set in
     row_ends r (c.loop-k.invariant.1 _ r).1 c.loop-k-test.false
