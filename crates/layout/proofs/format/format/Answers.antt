@@ -1,6 +1,7 @@
 -- `format` meets its contract: a plan for each way out. Assumes nothing.
 use mathlib.Core.Path.{sym, ◌∙◌}
 use native.Mathlib.Omega.{arith}
+use borrow.Author.Tests.{lt-ltb, le-ltb}
 use Rattle.table.proofs.Laws.Geometry.{made_sized}
 use Rattle.table.proofs.Laws.Answers.{meets_refused, meets_done}
 use Rattle.layout.proofs.Laws.Format.{format_refused, format_unusable, format_short, format_carried}
@@ -14,7 +15,7 @@ returns-then-unusable c =
 pub returns-then-short : goal.returns-then-short
 returns-then-short c =
     meets_refused _ _ (format_short _ _ _ _ c.new-made.ensures c.in-Allowed.is
-    (sym c.unusable_frames-unusable.ensures ∙ c.if-unusable.false) c.words.ensures c.if-short.true)
+    (sym c.unusable_frames-unusable.ensures ∙ c.if-unusable.false) c.words.ensures (lt-ltb _ _ c.if-short.true))
 
 pub format_words-left-requires : goal.format_words-left-requires
 format_words-left-requires c =
@@ -27,4 +28,4 @@ returns-in-NotAllowed c = meets_refused _ _ (format_refused _ _ _ _ c.new-made.e
 pub returns-else-short : goal.returns-else-short
 returns-else-short c =
     meets_done _ (format_carried _ _ _ _ c.new-made.ensures c.in-Allowed.is
-    (sym c.unusable_frames-unusable.ensures ∙ c.if-unusable.false) c.words.ensures c.if-short.false) c.format_words-left.ensures
+    (sym c.unusable_frames-unusable.ensures ∙ c.if-unusable.false) c.words.ensures (le-ltb _ _ c.if-short.false)) c.format_words-left.ensures
