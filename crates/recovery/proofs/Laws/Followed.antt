@@ -51,11 +51,11 @@ Entered g (size_store h) = ⊥
 Entered g (mark_store n w) = ⊥
 Entered g (entry_store n b c) = (n < g.nodes) × (b < g.items)
 
-pub entered_within : {g : Geometry} {ss : List Store} → All (Entered g) ss → All (Within g) ss
-entered_within none = none
-entered_within (more {s = size_store h} p a) = absurd p
-entered_within (more {s = mark_store n w} p a) = absurd p
-entered_within (more {s = entry_store n b c} p a) = more p (entered_within a)
+pub entered_within : (g : Geometry) {ss : List Store} → All (Entered g) ss → All (Within g) ss
+entered_within g none = none
+entered_within g (more {s = size_store h} p a) = absurd p
+entered_within g (more {s = mark_store n w} p a) = absurd p
+entered_within g (more {s = entry_store n b c} p a) = more p (entered_within g a)
 
 pub entered_changes : (g : Geometry) (n b : ℕ) (cs : List Change) → n < g.nodes → b < g.items → All (Entered g) (map (entry_store n b) cs)
 entered_changes g n b [] hn hb = none
@@ -74,17 +74,17 @@ one_entered (Node m) n b c v = refl
 
 -- the lost mark is no matter to such stores
 pub survivors_entered :
-    {g : Geometry} {ss : List Store} (lost : Lost) (v : View) → All (Entered g) ss → survivors lost (updates ss v) ≡ updates ss (survivors lost v)
-survivors_entered lost v none = refl
-survivors_entered lost v (more {s = size_store h} p a) = absurd p
-survivors_entered lost v (more {s = mark_store n w} p a) = absurd p
-survivors_entered lost v (more {s = entry_store n b c} {ss} p a) =
-    survivors_entered lost (update (entry_store n b c) v) a ∙ ap (λ (u : View). updates ss u) (one_entered lost n b c v)
+    (g : Geometry) {ss : List Store} (lost : Lost) (v : View) → All (Entered g) ss → survivors lost (updates ss v) ≡ updates ss (survivors lost v)
+survivors_entered g lost v none = refl
+survivors_entered g lost v (more {s = size_store h} p a) = absurd p
+survivors_entered g lost v (more {s = mark_store n w} p a) = absurd p
+survivors_entered g lost v (more {s = entry_store n b c} {ss} p a) =
+    survivors_entered g lost (update (entry_store n b c) v) a ∙ ap (λ (u : View). updates ss u) (one_entered lost n b c v)
 
 pub stage_follows :
     {g : Geometry} {pre : List Store} {l₀ l l' : ℕ} {t₀ t t' : List ℕ} (lost : Lost) (f : View → List Store) → words_of g ≤ length t₀
     → All (Entered g) pre → Stored g l₀ pre t₀ t l → Stored g l (f (survivors lost (view g t))) t t' l'
     → Stored g l₀ (pre ++ f (updates pre (survivors lost (view g t₀)))) t₀ t' l'
 stage_follows {g} {pre} {t₀ = t₀} lost f long within s r =
-    stored_as (ap (λ (w : View). pre ++ f w) (sym (survivors_entered lost (view g t₀) within)))
-    (stored_follows (λ v. f (survivors lost v)) long (entered_within within) s r)
+    stored_as (ap (λ (w : View). pre ++ f w) (sym (survivors_entered g lost (view g t₀) within)))
+    (stored_follows (λ v. f (survivors lost v)) long (entered_within g within) s r)

@@ -66,7 +66,7 @@ module _ (g : Geometry) (lost : Lost) {left : ℕ} {plain : Bool} {t s tallies u
   module _ {left₁ : ℕ} {t₁ : List ℕ} (a : Stored g left (number_stores g w) t t₁ left₁) where
     numbered_view : (left₁ ≡ 0 → ⊥) → survivors lost (view g t₁) ≡ updates (number_stores g w) w
     numbered_view z =
-        ap (survivors lost) (view_left p.numbering.long (entered_within (entered_number g w)) z a) ∙ survivors_entered lost (view g t) (entered_number g w)
+        ap (survivors lost) (view_left p.numbering.long (entered_within g (entered_number g w)) z a) ∙ survivors_entered g lost (view g t) (entered_number g w)
 
     pub surplus_settles : Settles g lost left₁ t₁ tallies
     surplus_settles = record { settled = λ z. subst (λ (x : View). Settled g x tallies) (sym (numbered_view z)) (p.settled (λ q. z (omega (arith, a.rest)))) }
@@ -133,4 +133,4 @@ rolled_pairable g lost {forward} {simple} {left₁ = left₁} {t} {t₁} {tallie
     entered = rw (← r.way) at (entered_roll g (survivors lost (view g t)))
 
     viewed : (left₁ ≡ 0 → ⊥) → survivors lost (view g t₁) ≡ updates (entries_to g (survivors lost (view g t)) (roll_change forward)) (survivors lost (view g t))
-    viewed z = ap (survivors lost) (view_left long (entered_within entered) z a) ∙ survivors_entered lost (view g t) entered
+    viewed z = ap (survivors lost) (view_left long (entered_within g entered) z a) ∙ survivors_entered g lost (view g t) entered

@@ -161,7 +161,7 @@ module _ (g : Geometry) (lost : Lost) (b n : ℕ) {left p : ℕ} {t s : List ℕ
       entered = entered_changes g p b (partner_changes ((view g t).entry n b)) taker.there item
 
       viewed : (left' ≡ 0 → ⊥) → survivors lost (view g t') ≡ updates (map (entry_store p b) (partner_changes ((view g t).entry n b))) (survivors lost (view g t))
-      viewed more = ap (survivors lost) (view_left ready.long (entered_within entered) more r) ∙ survivors_entered lost (view g t) entered
+      viewed more = ap (survivors lost) (view_left ready.long (entered_within g entered) more r) ∙ survivors_entered g lost (view g t) entered
 
       counted : used ≡ used_with (get_or s p 0) ((survivors lost (view g t)).entry p b).state
       counted = f ∙ rw (survivor_entry lost (view g t), q, k) refl

@@ -122,11 +122,11 @@ module _ (g : Geometry) (w : View) (e : ℕ → ℕ → Entry) (s : Agrees g w e
 -- ---- the stages one after the other
 
 -- stores in entries leave the marks
-entered_marks : {g : Geometry} {ss : List Store} (v : View) → All (Entered g) ss → (updates ss v).mark ≡ v.mark
-entered_marks v none = refl
-entered_marks v (more {s = size_store h} p a) = absurd p
-entered_marks v (more {s = mark_store n x} p a) = absurd p
-entered_marks v (more {s = entry_store n b c} p a) = entered_marks (update (entry_store n b c) v) a
+entered_marks : (g : Geometry) {ss : List Store} (v : View) → All (Entered g) ss → (updates ss v).mark ≡ v.mark
+entered_marks g v none = refl
+entered_marks g v (more {s = size_store h} p a) = absurd p
+entered_marks g v (more {s = mark_store n x} p a) = absurd p
+entered_marks g v (more {s = entry_store n b c} p a) = entered_marks g (update (entry_store n b c) v) a
 
 -- a stage that stores the same in views that agree
 abbrev Steady : Geometry → (View → List Store) → Type 0
@@ -139,7 +139,7 @@ module _ (g : Geometry) where
   then_steady f h p entered q w e s =
       ap (λ (ss : List Store). h (updates ss (over w e))) (p w e s) ∙ ap h (updates_over g w e (f w))
       ∙ q (updates (f w) w) (updates (f w) (over w e)).entry
-      (updates_agree g w e (f w) (entered_marks w (entered w)) s)
+      (updates_agree g w e (f w) (entered_marks g w (entered w)) s)
 
   followed_steady :
       (f h : View → List Store) → Steady g f → ((w : View) → All (Entered g) (f w)) → Steady g h → Steady g (followed f h)
