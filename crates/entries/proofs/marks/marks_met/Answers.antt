@@ -12,8 +12,7 @@ loop-node-init c = (search rules, marking_none _)
 pub loop-node-preserved : goal.loop-node-preserved
 loop-node-preserved c =
     let m = c.loop-node.invariant.1 in
-    let e = c.mark_at-mark.ensures in
-    (
+    let e = c.mark_at-mark.ensures in (
       search rules,
       elim c.if-first-eq0.branch [
         | then-first-eq0 w ↦ marking_first _ _ _ _ m _ e _ w.if-first-eq0.true w.first-is

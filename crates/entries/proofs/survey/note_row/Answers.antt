@@ -57,8 +57,7 @@ overflow_add-frames c =
 
 pub loop-k-preserved : goal.loop-k-preserved
 loop-k-preserved c =
-    let fits : (i : ℕ) → get_or c.args.table.now i 0 < 2 ^ 64 = λ i. omega (arith, c.shared_slice_known-1.given i) in
-    (
+    let fits : (i : ℕ) → get_or c.args.table.now i 0 < 2 ^ 64 = λ i. omega (arith, c.shared_slice_known-1.given i) in (
       c.note_entry-turn.auto.notes ∙ c.loop-k.invariant.0,
       λ g r.
           let x = row_turns r (c.loop-k.invariant.1 g r).1 c.loop-k-test.true refl in

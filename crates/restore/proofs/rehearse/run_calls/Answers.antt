@@ -9,20 +9,19 @@ pub loop-i-init : goal.loop-i-init
 loop-i-init c = (search rules, (search rules, (search rules, (ran_none _ _ _, scratch_none _ _ _ _))))
 
 pub loop-i-preserved : goal.loop-i-preserved
-loop-i-preserved c =
+loop-i-preserved c = (
+  search rules,
+  (
+    search rules,
     (
       search rules,
       (
-        search rules,
-        (
-          search rules,
-          (
-            ran_next _ _ _ c.loop-i.invariant.1.0 c.loop-i.invariant.1.1.1.0 c.call_at-call.ensures c.carry_out.ensures,
-            scratch_next _ _ _ c.loop-i.invariant.1.0 c.loop-i.invariant.1.1.1.0 c.call_at-call.ensures c.carry_out.ensures _ c.loop-i.invariant.1.1.1.1,
-          ),
-        ),
+        ran_next _ _ _ c.loop-i.invariant.1.0 c.loop-i.invariant.1.1.1.0 c.call_at-call.ensures c.carry_out.ensures,
+        scratch_next _ _ _ c.loop-i.invariant.1.0 c.loop-i.invariant.1.1.1.0 c.call_at-call.ensures c.carry_out.ensures _ c.loop-i.invariant.1.1.1.1,
       ),
-    )
+    ),
+  ),
+)
 
 pub returns : goal.returns
 returns c = ran_end _ _ _ c.loop-i.invariant.0 c.loop-i-test.false refl c.loop-i.invariant.1.1.1.0 c.loop-i.invariant.1.1.1.1
