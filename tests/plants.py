@@ -33,7 +33,7 @@ def main(test, plants):
     name = os.path.basename(test) + '_test'
     with tempfile.TemporaryDirectory() as copy:
         for part in ('crates', 'embed', 'tests'):
-            shutil.copytree(os.path.join(TOP, part), os.path.join(copy, part))
+            shutil.copytree(os.path.join(TOP, part), os.path.join(copy, part), ignore=shutil.ignore_patterns('out'))
         shutil.copy(os.path.join(TOP, 'crates.txt'), copy)
         os.chdir(copy)
         failed = [title for title, *plant in plants if not try_plant(test, *plant)]

@@ -23,9 +23,9 @@ def blank(text):
 
 
 def crates():
-    """{crate: the crates that it names as below it}"""
+    """{crate: the crates that it names as below it}; what kind a crate is stands behind its name"""
     lines = [line.partition(':') for line in read('crates.txt').split('\n') if line and not line.startswith('#')]
-    return {name: below.split() for name, _, below in lines}
+    return {name.split()[0]: below.split() for name, _, below in lines}
 
 
 def library():

@@ -16,7 +16,7 @@ use Rattle.table.specs.declared.geometry.Geometry.{Geometry}
 use Rattle.table.specs.Geometry.{words_of}
 use Rattle.table.specs.Words.{state_word, invalid, shared}
 use Rattle.table.specs.Stores.{Change, Store, entry_store, state_to, value_to, kept_to, after}
-use Rattle.table.specs.View.{Entry, View, view, current, kept, live, changed, update, updates}
+use Rattle.table.specs.View.{Entry, View, view, current, kept, changed, update, updates}
 use Rattle.table.proofs.Laws.ViewAfter.{view_after}
 use Rattle.table.proofs.Laws.Puts.{put₂_same, put₂_other}
 use Rattle.table.proofs.Laws.Via.{Via, via_within}

@@ -16,7 +16,7 @@ use Rattle.table.proofs.Laws.Words.{current_state, kept_state}
 use Rattle.table.proofs.Laws.Forms.{form_facts}
 use Rattle.table.specs.Stores.{Store, entry_store, state_to, after}
 use Rattle.table.proofs.Laws.Stores.{All, none, all_then}
-use Rattle.table.specs.View.{View, view, live, current, kept}
+use Rattle.table.specs.View.{View, view, current, kept}
 use Rattle.table.specs.Answers.{carry}
 use Rattle.entries.specs.declared.check.Checked.TheVariants.{Passed}
 use Rattle.entries.specs.Check.{fault_of}

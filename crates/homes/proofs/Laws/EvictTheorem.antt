@@ -9,7 +9,7 @@ use native.Mathlib.Omega.{arith}
 use native.Mathlib.Decide.{ℕ_discrete}
 use Rattle.table.specs.declared.geometry.Geometry.{Geometry}
 use Rattle.table.specs.Stores.{Store, after}
-use Rattle.table.specs.View.{View, view, live}
+use Rattle.table.specs.View.{View, view}
 use Rattle.table.proofs.Laws.Via.{via_cut}
 use Rattle.table.specs.Copies.{back_copy}
 use Rattle.table.specs.Answers.{carry}

@@ -1,5 +1,4 @@
 -- `other_nodes` meets its contract: a turn finds its entry as it was at the start. Assumes nothing.
-use Prim.Native.Nat.{◌-◌}
 use Rattle.table.proofs.Laws.Stores.{loop-starts, loop-ends}
 use Rattle.calls.specs.Write.{other_stores}
 use Rattle.calls.proofs.Laws.WriteCode.{other_turn}

@@ -3,7 +3,6 @@ use mathlib.Core.Path.{◌≡◌, sym, ap, ◌∙◌}
 use mathlib.Core.Bool.{true, false}
 use native.Mathlib.Omega.{arith}
 use lib.ListN.{get_or}
-use borrow.Author.Tests.{not-true, not-false}
 use Rattle.table.specs.Words.{size_form}
 use Rattle.entries.specs.Check.{made_of}
 use Rattle.entries.proofs.Laws.Check.{sizes_empty, sizes_form, sizes_refused, sizes_short, sizes_passed}

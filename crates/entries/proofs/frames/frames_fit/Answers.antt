@@ -1,5 +1,4 @@
 -- `frames_fit` meets its contract: the loop has tested the sets before `set`. Assumes nothing.
-use Prim.Native.Nat.{◌-◌}
 use mathlib.Core.Path.{ap₂}
 use native.Mathlib.Omega.{arith}
 use borrow.Author.Rules.{rules}

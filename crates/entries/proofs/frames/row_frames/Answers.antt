@@ -1,5 +1,5 @@
 -- `row_frames` meets its contract: the frames of the entries before the place. Assumes nothing.
-use Prim.Native.Nat.{◌+◌, ◌-◌, ◌*◌, ◌/◌}
+use Prim.Native.Nat.{◌+◌, ◌*◌, ◌/◌}
 use native.Mathlib.Omega.{arith}
 use Rattle.entries.proofs.Laws.RowFrames.{row_frames_at, row_frames_next}
 use Rattle.entries.proofs.frames.row_frames.Goals as goal

@@ -1,5 +1,4 @@
 -- `used_by_items` meets its contract: the sum so far, which is small. Assumes nothing.
-use Prim.Native.Nat.{◌-◌}
 use mathlib.Core.Path.{ap, ◌∙◌}
 use native.Mathlib.Omega.{arith}
 use borrow.Author.Rules.{rules}

@@ -1,6 +1,4 @@
 -- `marks::marks_met` meets its contract: the loop has met the marks before `node`. Assumes nothing.
-use Prim.Native.Nat.{◌-◌}
-use mathlib.Core.Logic.{⊎_elim}
 use borrow.Author.Rules.{rules}
 use Rattle.entries.proofs.Laws.MarksLoop.{marking_none, marking_first, marking_next, marking_all}
 use Rattle.entries.proofs.marks.marks_met.Goals as goal

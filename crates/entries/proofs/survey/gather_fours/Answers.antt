@@ -1,5 +1,5 @@
 -- `gather_fours` meets its contract: the entries before the offset are gathered. Assumes nothing.
-use Prim.Native.Nat.{◌+◌, ◌-◌}
+use Prim.Native.Nat.{◌+◌}
 use native.Mathlib.Omega.{arith}
 use borrow.Author.Rules.{rules}
 use Rattle.entries.proofs.Laws.SurveyGather.{gathering_at, gathering_none}

@@ -1,5 +1,5 @@
 -- `occupied` meets its contract: the entries before the offset are gathered. Assumes nothing.
-use Prim.Native.Nat.{◌+◌, ◌-◌, ◌*◌, ◌/◌}
+use Prim.Native.Nat.{◌+◌, ◌*◌, ◌/◌}
 use native.Mathlib.Omega.{arith}
 use Rattle.entries.proofs.Laws.SurveyGather.{gathering_on, gathering_ends}
 use Rattle.entries.proofs.survey.occupied.Goals as goal

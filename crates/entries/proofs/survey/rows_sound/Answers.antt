@@ -1,5 +1,4 @@
 -- `rows_sound` meets its contract: the loop has surveyed the nodes before `node`. Assumes nothing.
-use Prim.Native.Nat.{◌-◌}
 use native.Mathlib.Omega.{arith}
 use borrow.Author.Rules.{rules}
 use Rattle.entries.proofs.Laws.SurveySound.{rows_none, rows_on, rows_next, rows_all}

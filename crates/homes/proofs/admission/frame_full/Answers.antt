@@ -1,6 +1,5 @@
 -- `frame_full` meets its contract: needed, and no frame of the set free. Assumes nothing.
 use Rattle.homes.proofs.Laws.Admission.{frame_spared, frame_asked}
-use borrow.Author.Tests.{not-true, not-false}
 use Rattle.homes.proofs.admission.frame_full.Goals as goal
 
 pub returns-then-not-needed : goal.returns-then-not-needed

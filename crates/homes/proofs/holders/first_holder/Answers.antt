@@ -1,5 +1,4 @@
 -- `first_holder` meets its contract: nothing is found before `node`. Assumes nothing.
-use Prim.Native.Nat.{◌-◌}
 use mathlib.Core.Path.{sym, ◌∙◌}
 use borrow.Author.Rules.{rules}
 use Rattle.counting.proofs.Laws.First.{first_starts, first_turns, first_found, first_ends}

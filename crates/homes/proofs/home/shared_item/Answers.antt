@@ -1,5 +1,4 @@
 -- `shared_item` meets its contract: no item below `item` is Shared there. Assumes nothing.
-use Prim.Native.Nat.{◌-◌}
 use Rattle.counting.proofs.Laws.First.{first_starts}
 use Rattle.homes.proofs.Laws.HomeCode.{shared_here, shared_on, shared_none}
 use borrow.Author.Rules.{rules}

@@ -1,5 +1,4 @@
 -- `format_marks` meets its contract: the loop has stored the marks before `node`. Assumes nothing.
-use Prim.Native.Nat.{◌-◌}
 use Rattle.table.proofs.Laws.Stores.{loop-starts, loop-turns, loop-ends}
 use borrow.Author.Rules.{rules}
 use Rattle.layout.proofs.format.format_marks.Goals as goal

@@ -1,5 +1,4 @@
 -- `format_nodes` meets its contract: the loop has stored the entries of the nodes before `node`. Assumes nothing.
-use Prim.Native.Nat.{◌-◌}
 use Rattle.table.proofs.Laws.Stores.{loop-starts, loop-turns, loop-ends}
 use Rattle.layout.proofs.Laws.Format.{entries_nested}
 use borrow.Author.Rules.{rules}

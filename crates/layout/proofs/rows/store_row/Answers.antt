@@ -1,5 +1,4 @@
 -- `store_row` meets its contract: the loop has stored the items before `item`. Assumes nothing.
-use Prim.Native.Nat.{◌-◌}
 use Rattle.layout.proofs.Laws.Rows.{row_starts, row_turns, row_ends}
 use Rattle.layout.proofs.rows.store_row.Goals as goal
 

@@ -1,5 +1,4 @@
 -- `close_marks` meets its contract: a turn finds its mark as it was at the start. Assumes nothing.
-use Prim.Native.Nat.{◌-◌}
 use Rattle.table.proofs.Laws.Stores.{loop-starts, loop-ends}
 use Rattle.table.specs.View.{marks_to}
 use Rattle.survivors.proofs.Laws.ClosingMarksCode.{survivor_mark_turn}

@@ -1,5 +1,4 @@
 -- `largest_number` meets its contract: the largest of the nodes before `node`. Assumes nothing.
-use Prim.Native.Nat.{◌-◌}
 use mathlib.Core.Path.{ap, ◌∙◌}
 use Rattle.table.specs.Words.{number_of}
 use Rattle.survivors.proofs.Laws.ClosingMarksCode.{largest_none, largest_next, largest_ends}

@@ -1,5 +1,4 @@
 -- `forward_in` meets its contract: the loop has looked at the nodes before `node`. Assumes nothing.
-use Prim.Native.Nat.{◌-◌}
 use Rattle.counting.proofs.Laws.Exists.{exists_none, exists_next, exists_ends}
 use Rattle.survivors.specs.Direction.{forward_in}
 use borrow.Author.Rules.{rules}

@@ -1,5 +1,4 @@
 -- `survivor_count` meets its contract: the loop has counted the nodes before `node`. Assumes nothing.
-use Prim.Native.Nat.{◌-◌}
 use Rattle.counting.proofs.Laws.Counting.{count_none, count_turn}
 use Rattle.survivors.proofs.Laws.SurvivorsCode.{count_end}
 use borrow.Author.Rules.{rules}

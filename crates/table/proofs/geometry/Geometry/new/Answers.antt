@@ -3,7 +3,6 @@ use mathlib.Core.Bool.{true, false}
 use mathlib.Core.Path.{◌≡◌}
 use Prim.Native.Nat.{◌*◌, ◌-◌, ◌≤◌}
 use native.Mathlib.Omega.{arith}
-use borrow.Author.Tests.{not-true, not-false}
 use Rattle.table.specs.Geometry.{in_ranges, four_copies, geometry_of}
 use Rattle.table.proofs.Laws.Geometry.{product, sized, Sized}
 use Rattle.table.proofs.geometry.Geometry.new.Goals as goal
