@@ -13,7 +13,7 @@ use lib.Dec.{eqb, ltb}
 use borrow.Author.Tests.{eqb-true, eq-eqb, ne_eqb, ltb-true, ltb-false, lt-ltb, le-leb, not-true}
 use Rattle.counting.proofs.Laws.Tests.{by_cases, both, either, neither, no_both}
 use Rattle.counting.proofs.Laws.Tests.{and_both, and_no_right, or_left, or_right}
-use Rattle.counting.specs.Counting.{one, sum, count, first}
+use Rattle.counting.specs.Counting.{one, sum, count}
 use Rattle.counting.proofs.Laws.Counting.{Only, only_counts, sum_le, sum_plus, sum_count}
 use Rattle.counting.proofs.Laws.Counting.{count_mono, count_not, count_zero}
 use Rattle.counting.proofs.Laws.First.{first_least}

@@ -16,7 +16,7 @@ use Rattle.survivors.specs.declared.lost.Lost.{Lost}
 use Rattle.survivors.specs.Survivors.{survivors, largest_number}
 use Rattle.recovery.specs.Sides.{roll_change, roll_stores}
 use Rattle.recovery.specs.Numbering.{number_stores, partners_stores}
-use Rattle.recovery.specs.code.Tallies.{Tallied, plain}
+use Rattle.recovery.specs.code.Tallies.{Tallied}
 use Rattle.recovery.proofs.Laws.Tallies.{holders_told, holder_told}
 use Rattle.recovery.specs.code.NumberingCode.{Unkept}
 use Rattle.recovery.proofs.Laws.Followed.{Entered, stored_any, view_left, entered_within, survivors_entered}

@@ -8,7 +8,7 @@ use native.Mathlib.Omega.{arith}
 use lib.Dec.{eqb, ltb}
 use borrow.Author.Tests.{eqb-true, eq-eqb, ltb-true, ltb-false}
 use Rattle.counting.proofs.Laws.Tests.{both, no_both, by_cases, or_left, or_right, and_no_right}
-use Rattle.counting.specs.Counting.{one, sum, count, first}
+use Rattle.counting.specs.Counting.{one, sum, count}
 use Rattle.counting.proofs.Laws.Counting.{sum_ext, Only, only_counts, sum_count}
 use Rattle.counting.proofs.Laws.Cyclic.{FoundAfter, after_found, after_none}
 use Rattle.table.specs.declared.geometry.Geometry.{Geometry}

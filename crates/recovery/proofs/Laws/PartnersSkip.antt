@@ -19,7 +19,7 @@ use Rattle.entries.specs.Tally.{copy}
 use Rattle.survivors.specs.declared.lost.Lost.{Lost}
 use Rattle.survivors.specs.Survivors.{survivors}
 use Rattle.survivors.proofs.Laws.SurvivorsCode.{survivor_entry, survivor_marks}
-use Rattle.recovery.specs.Numbering.{single, holder_of, partner_changes, partner_stores, staged}
+use Rattle.recovery.specs.Numbering.{holder_of, partner_changes, partner_stores, staged}
 use Rattle.recovery.specs.code.PartnersCode.{Ready, Turned, Single, Settles, Passable}
 use Rattle.recovery.proofs.Laws.PartnersCode.{item_other, items_ready, all_partner}
 use Rattle.recovery.specs.code.Tallies.{holders_by, holder_by}

@@ -1,5 +1,4 @@
 -- `close_entries` meets its contract: a turn finds its node's entries as they were at the start. Assumes nothing.
-use Prim.Native.Nat.{◌-◌}
 use borrow.Author.Rules.{rules}
 use Rattle.checkpoints.proofs.Laws.Checkpoint.{entries_start, entries_turn, entries_end}
 use Rattle.checkpoints.proofs.checkpoint.close_entries.Goals as goal

@@ -1,5 +1,4 @@
 -- `close_live` meets its contract: a turn finds its entry as it was at the start. Assumes nothing.
-use Prim.Native.Nat.{◌-◌}
 use native.Mathlib.Omega.{arith}
 use Rattle.table.proofs.Laws.Geometry.{entry_within}
 use Rattle.table.proofs.Laws.Stores.{loop-starts, loop-ends}

@@ -1,5 +1,4 @@
 -- `common_mark` meets its contract: no node before `node` is live. Assumes nothing.
-use Prim.Native.Nat.{◌-◌}
 use borrow.Author.Rules.{rules}
 use Rattle.counting.proofs.Laws.First.{first_starts}
 use Rattle.checkpoints.proofs.Laws.Checkpoint.{common_here, common_none, common_passes}

@@ -1,5 +1,4 @@
 -- `marks_to` meets its contract: a turn finds its mark as it was at the start. Assumes nothing.
-use Prim.Native.Nat.{◌-◌}
 use mathlib.Core.Path.{refl, ◌∙◌}
 use Rattle.table.proofs.Laws.Stores.{loop-starts, loop-ends}
 use Rattle.table.specs.View.{marks_to}

@@ -1,5 +1,4 @@
 -- `row_length` meets its contract: the loop has counted the entries before `item`. Assumes nothing.
-use Prim.Native.Nat.{◌-◌}
 use native.Mathlib.Omega.{arith}
 use borrow.Author.Rules.{rules}
 use Rattle.counting.proofs.Laws.Counting.{count_none, bit_counted}

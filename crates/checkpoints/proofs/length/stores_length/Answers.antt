@@ -1,5 +1,4 @@
 -- `stores_length` meets its contract: the loop has counted the stores of the nodes before `node`. Assumes nothing.
-use Prim.Native.Nat.{◌-◌}
 use borrow.Author.Rules.{rules}
 use Rattle.counting.proofs.Laws.Counting.{sum_none, sum_next}
 use Rattle.checkpoints.proofs.Laws.CommitLength.{length_all}

@@ -1,8 +1,6 @@
 -- `kinds_of` meets its contract: the loop has tested the items before `item`. Assumes nothing.
-use Prim.Native.Nat.{◌-◌}
 use mathlib.Core.Path.{refl}
 use Rattle.counting.proofs.Laws.Counting.{every_none, every_next, every_ends}
-use Rattle.recovery.specs.code.Tallies.{plain}
 use borrow.Author.Rules.{rules}
 use Rattle.recovery.proofs.census.kinds_of.Goals as goal
 

@@ -1,5 +1,4 @@
 -- `note_nodes` meets its contract: the nodes before `node` are noted. Assumes nothing.
-use Prim.Native.Nat.{◌-◌}
 use mathlib.Core.Path.{refl, ◌∙◌}
 use native.Mathlib.Omega.{arith}
 use Rattle.counting.proofs.Laws.Counting.{every_none, every_next}

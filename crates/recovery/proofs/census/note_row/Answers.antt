@@ -1,5 +1,4 @@
 -- `note_row` meets its contract: the items before the list's next are passed, in any geometry that has this row, for the loop itself has none. Assumes nothing.
-use Prim.Native.Nat.{◌-◌}
 use native.Mathlib.Omega.{arith}
 use Rattle.recovery.proofs.Laws.CensusLaws.{row_lists, passed_start, entry_small, passed_small, passed_asks, passed_turn, passed_all}
 use borrow.Author.Rules.{rules}

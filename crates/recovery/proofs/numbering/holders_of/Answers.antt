@@ -1,5 +1,4 @@
 -- `holders_of` meets its contract: the loop has counted the nodes before `node`. Assumes nothing.
-use Prim.Native.Nat.{◌-◌}
 use native.Mathlib.Omega.{arith}
 use Rattle.recovery.proofs.Laws.NumberingCode.{holders_start, holders_turn, holders_end}
 use borrow.Author.Rules.{rules}

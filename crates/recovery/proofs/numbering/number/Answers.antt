@@ -1,5 +1,4 @@
 -- `number` meets its contract: a turn finds its item's row as it was at the start. Assumes nothing.
-use Prim.Native.Nat.{◌-◌}
 use mathlib.Core.Path.{refl}
 use Rattle.recovery.proofs.Laws.NumberingCode.{numbers_start, numbers_ready, numbers_turn, numbers_end}
 use borrow.Author.Rules.{rules}

@@ -1,5 +1,4 @@
 -- `number_item` meets its contract: a turn finds its entry as it was at the start, and has counted the lower holders. Assumes nothing.
-use Prim.Native.Nat.{◌-◌}
 use native.Mathlib.Omega.{arith}
 use Rattle.table.proofs.Laws.Stores.{loop-starts, loop-ends}
 use Rattle.recovery.proofs.Laws.NumberingCode.{holders_start, holders_turn, code_found, number_turn}

@@ -1,5 +1,4 @@
 -- `fill_counted` meets its contract: the loop has filled the words before `node`. Assumes nothing.
-use Prim.Native.Nat.{◌-◌}
 use mathlib.Core.Path.{refl}
 use Rattle.recovery.proofs.Laws.PartnersCode.{from_start, from_turn, from_end}
 use borrow.Author.Rules.{rules}

@@ -1,5 +1,4 @@
 -- `fill_used` meets its contract: the loop has filled the words before `node`. Assumes nothing.
-use Prim.Native.Nat.{◌-◌}
 use Rattle.recovery.proofs.Laws.PartnersCode.{filled_start, filled_turn, filled_end}
 use borrow.Author.Rules.{rules}
 use Rattle.recovery.proofs.partners.fill_used.Goals as goal

@@ -1,5 +1,4 @@
 -- `partner_items` meets its contract: the items before `item` have had their turns. Assumes nothing.
-use Prim.Native.Nat.{◌-◌}
 use Rattle.recovery.proofs.Laws.PartnersCode.{items_start, items_turn, items_end}
 use Rattle.recovery.proofs.Laws.PartnersSkip.{turn_ready}
 use borrow.Author.Rules.{rules}

@@ -1,5 +1,4 @@
 -- `roll` meets its contract: a turn finds its node's entries as they were at the start. Assumes nothing.
-use Prim.Native.Nat.{◌-◌}
 use mathlib.Core.Path.{◌∙◌}
 use Rattle.checkpoints.proofs.Laws.Checkpoint.{entries_start}
 use Rattle.recovery.specs.Sides.{roll_change}

@@ -1,5 +1,4 @@
 -- `roll_listed` meets its contract: the items before the list's next are passed. Assumes nothing.
-use Prim.Native.Nat.{◌-◌}
 use Rattle.recovery.proofs.Laws.RollingCode.{listed_first, listed_room, listed_state, listed_next, listed_all}
 use borrow.Author.Rules.{rules}
 use Rattle.recovery.proofs.rolling.roll_listed.Goals as goal

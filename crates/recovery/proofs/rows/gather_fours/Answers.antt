@@ -1,5 +1,5 @@
 -- `gather_fours` meets its contract: the items before `item` are listed. Assumes nothing.
-use Prim.Native.Nat.{◌+◌, ◌-◌}
+use Prim.Native.Nat.{◌+◌}
 use native.Mathlib.Omega.{arith}
 use borrow.Author.Rules.{rules}
 use Rattle.recovery.proofs.Laws.Rows.{listing_at, listing_none}

@@ -1,5 +1,4 @@
 -- `occupied_row` meets its contract: the items before `item` are listed. Assumes nothing.
-use Prim.Native.Nat.{◌-◌}
 use mathlib.Core.Path.{sym}
 use native.Mathlib.Omega.{arith}
 use borrow.Author.Rules.{rules}

@@ -1,5 +1,4 @@
 -- `clear` meets its contract: the loop has cleared the words before `at`. Assumes nothing.
-use Prim.Native.Nat.{◌-◌}
 use mathlib.Core.Path.{◌≡◌, ap, ◌∙◌}
 use native.Mathlib.Omega.{arith}
 use lib.ListN.{set}

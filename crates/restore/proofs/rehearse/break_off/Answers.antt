@@ -1,5 +1,4 @@
 -- `break_off` meets its contract: the loop has broken off the recoveries before `i`. Assumes nothing.
-use Prim.Native.Nat.{◌-◌}
 use Rattle.restore.proofs.Laws.RehearseCode.{broken_none, broken_next, scratch_whole, scratch_broken_lem, broken_end}
 use borrow.Author.Rules.{rules}
 use Rattle.restore.proofs.rehearse.break_off.Goals as goal

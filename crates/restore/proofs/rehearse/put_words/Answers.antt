@@ -1,5 +1,4 @@
 -- `put_words` meets its contract: the loop has put the words before `i`. Assumes nothing.
-use Prim.Native.Nat.{◌-◌}
 use Rattle.restore.proofs.Laws.RehearseCode.{put_none, put_next, put_end}
 use borrow.Author.Rules.{rules}
 use Rattle.restore.proofs.rehearse.put_words.Goals as goal

@@ -1,5 +1,4 @@
 -- `run_calls` meets its contract: the loop has carried out the calls before `i`. Assumes nothing.
-use Prim.Native.Nat.{◌-◌}
 use mathlib.Core.Path.{refl}
 use Rattle.restore.proofs.Laws.RehearseCode.{ran_none, ran_next, scratch_none, scratch_next, ran_end}
 use borrow.Author.Rules.{rules}
