@@ -1,7 +1,6 @@
 -- A word as a mask: bit k stands for number k.
-use Rattle.std.specs.Prelude.{ℕ, zero, suc, ◌+◌, ◌-◌, ◌*◌, ◌/◌, ◌%◌, ◌^◌, Bool, ◌==◌, bit_and}
+use Rattle.std.specs.Prelude.{ℕ, ◌-◌, ◌/◌, ◌%◌, ◌^◌, Bool, ◌==◌, bit_and}
 use Rattle.std.specs.Int.Count.{count_trailing_zeros}
-use Rattle.counting.specs.Counting.{one}
 
 -- bit k is set
 unfoldable pub bit_at : ℕ → ℕ → Bool
@@ -14,8 +13,3 @@ lowest_bit m = count_trailing_zeros 64 m
 -- the mask without that bit
 unfoldable pub clear_lowest : ℕ → ℕ
 clear_lowest m = bit_and m (m - 1)
-
--- the mask of a test: bit k is the test of b + k, for k below n
-unfoldable pub mask_of : (ℕ → Bool) → ℕ → ℕ → ℕ
-mask_of p b zero = 0
-mask_of p b (suc n) = one (p b) + 2 * mask_of p (suc b) n

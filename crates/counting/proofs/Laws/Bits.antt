@@ -1,4 +1,4 @@
--- The laws of `specs/Bits.antt`.
+-- The laws of `specs/Bits.antt` and `specs/code/Bits.antt`.
 use Rattle.std.proofs.Common.{◌≡◌, ℕ, zero, suc, ◌+◌, ◌-◌, ◌*◌, ◌/◌, ◌%◌, ◌^◌, ◌<◌, ◌≤◌, min, Bool, true, false, eqb, ltb, sym, refl, ap, ◌∙◌, subst, ap₂, add-zero, pow-suc, div-one, add-one, arith, ltb-false, ltb-true, eq-eqb, ne_eqb}
 use native.Mathlib.Nat.{div-div-eq-div-mul, pow-succ', zero-div}
 use lib.Bits.{bit_and, and_step, and_self}
@@ -6,7 +6,8 @@ use lib.Count.{count_trailing_zeros, under}
 use Rattle.counting.proofs.Laws.Tests.{by_cases, no_both}
 use Rattle.counting.specs.Counting.{one}
 use Rattle.counting.proofs.Laws.Counting.{one_le}
-use Rattle.counting.specs.Bits.{bit_at, lowest_bit, clear_lowest, mask_of}
+use Rattle.counting.specs.Bits.{bit_at, lowest_bit, clear_lowest}
+use Rattle.counting.specs.code.Bits.{mask_of}
 
 -- ---- the bits of a mask, from its lowest
 
