@@ -1,11 +1,11 @@
 -- Runs: the lines of bytes that follow each other, and a law for each turn of the code.
-use Rattle.std.proofs.Common.{◌≡◌, ℕ, zero, suc, ◌+◌, ◌-◌, ◌*◌, ◌<◌, ◌≤◌, List, [], ◌∷◌, ◌++◌, length, get_or, take, drop, sym, refl, ap, ◌∙◌, append_assoc, append-nil, arith, length-append, length-drop, take-append-drop, length-take-le, take_all, drop-drop, le-ltb}
+use Rattle.std.proofs.Common.{◌≡◌, ℕ, zero, suc, ◌+◌, ◌*◌, ◌<◌, ◌≤◌, List, [], ◌∷◌, ◌++◌, length, get_or, take, drop, sym, refl, ap, ◌∙◌, append_assoc, append-nil, arith, length-append, length-drop, take-append-drop, length-take-le, take_all, drop-drop, le-ltb}
 use lib.ListN.{get_or-append}
 use lib.Seq.{take-append_seam, drop-append-le}
 use Rattle.table.specs.declared.answers.Numbers.{Numbers}
 use Rattle.steps.specs.declared.decode.Step.{Step}
 use Rattle.steps.specs.Steps.{record_of}
-use Rattle.steps.specs.Run.{Quay, quay_after, line_numbers, StepServed, record_count, steps_up_to, steps_in, lines_by, quay_after_all, lines_of, left_by, start, RecordsRun}
+use Rattle.steps.specs.Run.{Quay, quay_after, line_numbers, StepServed, record_count, steps_up_to, steps_in, lines_by, quay_after_all, lines_of, left_by, RecordsRun}
 use Rattle.steps.specs.Lines.{line_bytes, BytesPut}
 use Rattle.steps.specs.code.RunCode.{PutAt, StepRun, RunTo}
 use Rattle.steps.proofs.Laws.Lines.{line_short}

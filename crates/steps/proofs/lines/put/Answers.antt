@@ -1,5 +1,5 @@
 -- `put` meets its contract: the loop has put the bytes before `i`. Assumes nothing.
-use Rattle.std.proofs.Common.{◌-◌, refl, rules}
+use Rattle.std.proofs.Common.{refl, rules}
 use Rattle.steps.proofs.Laws.Lines.{put_none, put_next, put_end}
 use Rattle.steps.proofs.lines.put.Goals as goal
 
