@@ -16,6 +16,7 @@ pub mod PartnersSkip
 pub mod RecoverPlan
 pub mod RecoverStages
 pub mod RecoverCode
+pub mod RestoreCode
 -- ---- what survivors must have, and that every cut of a recovery keeps it, stage by stage
 pub mod Ready
 pub mod Recovered
@@ -35,6 +36,7 @@ pub mod Largest
 pub mod ClosingVia
 pub mod RecoveredSound
 pub mod RecoverVia
+pub mod LostVia
 pub mod ReadyAccepts
 pub mod RecoverOff
 pub mod RecoverTheorem

@@ -13,7 +13,7 @@ use Rattle.table.proofs.Laws.View.{mark_read}
 use Rattle.survivors.specs.declared.lost.Lost.TheVariants.{Nobody, Node}
 use Rattle.recovery.specs.Recover.{survivor_stores, recover_stores}
 use Rattle.recovery.proofs.Laws.RecoveredSound.{dead_mark}
-use Rattle.recovery.proofs.Laws.RecoverVia.{lost_again}
+use Rattle.recovery.proofs.Laws.LostVia.{lost_again}
 
 module _ (g : Geometry) (t : List ℕ) (n : ℕ) (inside : n < g.nodes) (dead : live (view g t) n ≡ false) where
   -- one store more

@@ -33,8 +33,7 @@ use Rattle.recovery.proofs.Laws.RecoverPlan.{admission_admits}
 use Rattle.recovery.proofs.Laws.RecoverStages.{survivors_same, lost_stores_within, survivors_stored, recover_stored}
 use Rattle.recovery.specs.code.RollingCode.{Rolled}
 use Rattle.recovery.specs.code.Census.{Takable, Taken}
-use Rattle.recovery.specs.code.PairsCode.{Pairable, Pairs}
-use Rattle.recovery.proofs.Laws.PairsCode.{rolled_pairable}
+use Rattle.recovery.specs.code.PairsCode.{Pairs}
 use Rattle.recovery.specs.Recover.{recover_stores, scratch_words, survivors_formed, recover_admission, recover_checked, recover_of, RecoverMeets}
 use Rattle.recovery.specs.code.RecoverCode.{Recovers, Carriable, Roomy, StoresReady, RestoreReady, StagesStored}
 
@@ -161,9 +160,6 @@ restore_ready g lost left r a =
 
 module _ (g : Geometry) (lost : Lost) {forward plain : Bool} {left left₁ : ℕ} {t t₁ s l l' tallies u : List ℕ} (r : RestoreReady g lost forward plain t s l tallies u)
     (a : Rolled g lost forward left t t₁ l l' left₁) where
-  pub restore_pairable : g.nodes < 256 → Pairable g lost left₁ plain t₁ s tallies u
-  restore_pairable small = rolled_pairable g lost r.long r.room r.used_room small r.known a.stores
-
   pub restored :
       {left₂ left₃ : ℕ} {t₂ t₃ s' : List ℕ} → Pairs g lost left₁ t₁ t₂ s s' left₂ → Stored g left₂ (closing_stores g (survivors lost (view g t₂))) t₂ t₃ left₃
       → StagesStored g lost left t t₃ s s' left₃

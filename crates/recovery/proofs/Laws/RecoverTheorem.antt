@@ -25,7 +25,7 @@ use Rattle.recovery.proofs.Laws.Ready.{Ready, Going}
 use Rattle.recovery.proofs.Laws.Recovered.{Recovered}
 use Rattle.recovery.proofs.Laws.ReadyAccepts.{ready_formed, ready_fit}
 use Rattle.recovery.proofs.Laws.ClosingVia.{ready_fits}
-use Rattle.recovery.proofs.Laws.RecoverVia.{recover_via}
+use Rattle.recovery.proofs.Laws.LostVia.{recover_via}
 use Rattle.recovery.proofs.Laws.RecoverOff.{recover_off}
 use Rattle.recovery.proofs.Laws.RecoveredSound.{recovered_sound, recovered_current, recovered_back}
 

@@ -1,5 +1,6 @@
 -- `survivor_stores` meets its contract: the stages, each on the table that it finds. Assumes nothing.
-use Rattle.recovery.proofs.Laws.RecoverCode.{restore_pairable, restored}
+use Rattle.recovery.proofs.Laws.RecoverCode.{restored}
+use Rattle.recovery.proofs.Laws.RestoreCode.{restore_pairable}
 use borrow.Author.Rules.{rules}
 use Rattle.recovery.proofs.recover.survivor_stores.Goals as goal
 
