@@ -3,13 +3,13 @@
 
 mod run;
 
-fn main() {
-    let path = b"steps.bin";
-    let fd = os::open_read(path);
-    if fd < 0 {
-        os::fail(path);
-        return;
-    }
-    run::run_file(fd);
-    libc::close(fd);
+use anyhow::{Context, Result};
+use std::{fs, io};
+
+const PATH: &str = "steps.bin";
+
+fn main(rt: HostRuntime) -> Result<()> {
+    let mut file = fs::open(&rt, PATH).context(PATH)?;
+    run::run_file(&mut file, &mut io::writer(&rt))?;
+    Ok(())
 }

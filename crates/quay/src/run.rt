@@ -1,11 +1,13 @@
-// The records of a file, chunk after chunk. `Lines-then` (crate steps, proofs/Laws/Run.antt) says that the lines of the
-// chunks, one after the other, are those of the whole file.
-use libc::STDOUT_FILENO;
+// The records of a file, chunk after chunk.
+ghost use Rattle.std.specs.Prelude.{◌<◌, ◌≤◌, length, take, IfOk, OnOk, IfSome};
+ghost use Rattle.std.specs.Io.KnownBytes.{Consumes, Appends, IsAtEnd};
+ghost use Rattle.steps.specs.Run.{quay, quay_of};
+ghost use Rattle.quay.specs.Chunk.{ChunkRun};
+
+use std::io;
+use std::io::{Read, Write};
 use steps::run;
 use steps::serve::Progress;
-
-// More chunks than the longest file has, which is under 2^63 bytes.
-const CHUNKS: u64 = 0x20_0000_0000_0000;
 
 // What a chunk leaves: the progress, and whether another chunk may follow.
 #[derive(Clone, Copy)]
@@ -14,38 +16,64 @@ struct Left {
     more: bool,
 }
 
+// Fills the bytes from the file, or as many of the first as it has left; answers how many.
+fn fill<R: Read>(file: &mut R, bytes: &mut [u8]) -> io::Result<usize>
+    ensures count { IfOk result (λ n. n ≤ length bytes.new) }
+    ensures read { IfOk result (λ n.
+        Consumes (R.remaining file.old) (R.remaining file.new) (take n bytes.new)) }
+    ensures end { IfOk result (λ n. n < length bytes.new → IsAtEnd (R.remaining file.new)) }
+{
+    let mut count = 0;
+    while count < bytes.len() {
+        let read = file.read(&mut bytes[count..])?;
+        if read == 0 {
+            return Ok(count);
+        }
+        count += read;
+    }
+    Ok(count)
+}
+
 // Reads a chunk, runs it and writes its lines. A short one is the last.
-fn run_next(
-    fd: i32,
+fn run_next<R: Read, W: Write>(
+    file: &mut R,
+    lines: &mut W,
     table: &mut [u64; 8000],
     scratch: &mut [u64; 272],
     progress: Progress,
-) -> Left {
+) -> io::Result<Left>
+    ensures { IfOk result (λ left. ChunkRun
+        (quay table.old scratch.old progress) (quay table.new scratch.new left.progress)
+        (R.remaining file.old) (R.remaining file.new)
+        (W.contents lines.old) (W.contents lines.new) left.more) }
+{
     let mut bytes = [0u8; 1024];
     let mut out = [0u8; 5376];
-    let n = io::read_full(fd, &mut bytes);
+    let n = fill(file, &mut bytes)?;
     let ran = run::run_chunk(table, scratch, progress, &bytes, n, &mut out);
-    let count = ran.count;
-    let next = ran.progress;
-    io::write_all(STDOUT_FILENO, &out[..count]);
-    Left {
-        progress: next,
+    lines.write_all(&out[..ran.count])?;
+    Ok(Left {
+        progress: ran.progress,
         more: n == run::CHUNK,
-    }
+    })
 }
 
-// Runs a file's records.
-pub(crate) fn run_file(fd: i32) {
+// Runs a file's records, to the end of the file. Where its bytes are known, exactly quay's lines of them are written.
+// A read or a write that fails ends it, and the lines of earlier chunks stay written.
+pub(crate) fn run_file<R: Read, W: Write>(file: &mut R, lines: &mut W) -> io::Result<()>
+    ensures lines { OnOk result (IfSome (R.remaining file.old) (λ bytes.
+        Appends (W.contents lines.old) (W.contents lines.new) (quay_of bytes))) }
+    ensures end { OnOk result (IsAtEnd (R.remaining file.new)) }
+{
     let mut table = run::table();
     let mut scratch = run::scratch();
     let mut progress = run::start();
-    let mut chunks = CHUNKS;
-    while 0 < chunks {
-        let left = run_next(fd, &mut table, &mut scratch, progress);
+    for _ in 0..u64::MAX {
+        let left = run_next(file, lines, &mut table, &mut scratch, progress)?;
         if !left.more {
-            return;
+            return Ok(());
         }
         progress = left.progress;
-        chunks -= 1;
     }
+    Err(io::Error::other("the file does not end"))
 }

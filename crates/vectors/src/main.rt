@@ -6,14 +6,14 @@ mod compare;
 mod read;
 mod run;
 
-fn main() {
-    let path = b"vectors.bin";
-    let fd = os::open_read(path);
-    if fd < 0 {
-        os::fail(path);
-        return;
-    }
-    let tally = run::run_file(fd);
-    libc::close(fd);
-    compare::print_tally(tally);
+use anyhow::{Context, Result};
+use std::fs;
+
+const PATH: &str = "vectors.bin";
+
+fn main(rt: HostRuntime) -> Result<()> {
+    let mut file = fs::open(&rt, PATH).context(PATH)?;
+    let tally = run::run_file(&rt, &mut file)?;
+    compare::print_tally(&rt, tally)?;
+    Ok(())
 }

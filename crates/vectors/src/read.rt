@@ -1,6 +1,9 @@
 // The words of the file, big-endian, and the vectors that they make.
 ghost use Rattle.std.specs.Prelude.{◌+◌, ◌<◌, ◌≤◌, length};
 
+use std::io;
+use std::io::{ErrorKind, Read};
+
 // The most words that are read at a time.
 const MOST: usize = 8000;
 
@@ -71,21 +74,25 @@ pub(crate) fn first_words(words: &mut [u64], count: usize) -> &mut [u64] {
 }
 
 // Fills the bytes from the file, and the words from the bytes; whether the file had as many.
-fn read_through(fd: i32, bytes: &mut [u8], words: &mut [u64]) -> bool {
-    let size = bytes.len();
-    let n = io::read_full(fd, bytes);
-    decode(bytes, words);
-    n == size
+fn read_through<R: Read>(file: &mut R, bytes: &mut [u8], words: &mut [u64]) -> io::Result<bool> {
+    match file.read_exact(bytes) {
+        Ok(()) => {
+            decode(bytes, words);
+            Ok(true)
+        }
+        Err(e) if e.kind() == ErrorKind::UnexpectedEof => Ok(false),
+        Err(e) => Err(e),
+    }
 }
 
 // Fills the words from the file; whether it had as many, and they are at most 8,000.
-pub(crate) fn read_words(fd: i32, words: &mut [u64]) -> bool {
+pub(crate) fn read_words<R: Read>(file: &mut R, words: &mut [u64]) -> io::Result<bool> {
     let count = words.len();
     if MOST < count {
-        return false;
+        return Ok(false);
     }
     let mut buffer = [0u8; 64000];
-    read_through(fd, first_bytes(&mut buffer, 8 * count), words)
+    read_through(file, first_bytes(&mut buffer, 8 * count), words)
 }
 
 // A vector's header from its words.
@@ -136,19 +143,24 @@ fn put_words(words: &mut [u64], places: &[u64], news: &[u64]) -> bool {
 }
 
 // Reads places and their words, and puts these there; whether all is there.
-fn read_places(fd: i32, words: &mut [u64], places: &mut [u64], news: &mut [u64]) -> bool {
-    let placed = read_words(fd, places);
-    let read = read_words(fd, news);
+fn read_places<R: Read>(
+    file: &mut R,
+    words: &mut [u64],
+    places: &mut [u64],
+    news: &mut [u64],
+) -> io::Result<bool> {
+    let placed = read_words(file, places)?;
+    let read = read_words(file, news)?;
     let put = put_words(words, places, news);
-    placed & read & put
+    Ok(placed & read & put)
 }
 
 // Reads as many changed words, at most 8,000.
-fn read_changes(fd: i32, words: &mut [u64], count: usize) -> bool {
+fn read_changes<R: Read>(file: &mut R, words: &mut [u64], count: usize) -> io::Result<bool> {
     let mut places = [0u64; 8000];
     let mut news = [0u64; 8000];
     read_places(
-        fd,
+        file,
         words,
         first_words(&mut places, count),
         first_words(&mut news, count),
@@ -156,21 +168,25 @@ fn read_changes(fd: i32, words: &mut [u64], count: usize) -> bool {
 }
 
 // Reads the table that a call is given, and makes the one that it is to leave; whether all their words are there.
-pub(crate) fn read_tables(
-    fd: i32,
+pub(crate) fn read_tables<R: Read>(
+    file: &mut R,
     given: &mut [u64],
     expected: &mut [u64],
     changes: usize,
-) -> bool {
-    let read = read_words(fd, given);
+) -> io::Result<bool> {
+    let read = read_words(file, given)?;
     copy(given, expected);
-    let changed = read_changes(fd, expected, changes);
-    read & changed
+    let changed = read_changes(file, expected, changes)?;
+    Ok(read & changed)
 }
 
 // Reads the scratch before and after a call.
-pub(crate) fn read_scratch(fd: i32, given: &mut [u64], expected: &mut [u64]) -> bool {
-    let before = read_words(fd, given);
-    let after = read_words(fd, expected);
-    before & after
+pub(crate) fn read_scratch<R: Read>(
+    file: &mut R,
+    given: &mut [u64],
+    expected: &mut [u64],
+) -> io::Result<bool> {
+    let before = read_words(file, given)?;
+    let after = read_words(file, expected)?;
+    Ok(before & after)
 }

@@ -1,7 +1,5 @@
 -- `decode` is safe and ends. Assumes nothing.
-use Prim.Native.Nat.{◌-◌, ◌≤◌}
-use mathlib.Core.Path.{◌≡◌}
-use lib.ListN.{length}
+use Rattle.std.proofs.Common.{◌≡◌, ◌-◌, ◌≤◌, length}
 use Rattle.vectors.proofs.read.decode.Given as goal
 
 abbrev pub invariant-loop-at : goal.invariant-loop-at
