@@ -108,7 +108,7 @@ fn first_bytes(bytes: &[u8], count: usize) -> &[u8]
 
 // Runs the records of a chunk's first `count` bytes, and puts their lines, of at most 84 bytes each, at the start of
 // `out`. The last record may be cut off. Chunks that are full but for the last, one after the other, give what the
-// whole file gives (`Lines-then` in proofs/Laws/Run.antt).
+// whole file gives (`lines_then` in proofs/Laws/Run.antt).
 pub fn run_chunk(
     table: &mut [u64; 8000],
     scratch: &mut [u64; 272],
