@@ -4,7 +4,7 @@ use Rattle.std.specs.Io.KnownBytes.{Consumes, Appends}
 use Rattle.std.proofs.KnownBytes.{Consumes-nil, Appends-nil, Consumes-trans, Appends-trans, Consumes-whole}
 use Rattle.steps.specs.Run.{Quay, steps_up_to, lines_by, quay_after_all, lines_of, left_by}
 use Rattle.steps.proofs.Laws.Run.{lines_then, left_then}
-use Rattle.quay.specs.Chunk.{ChunkRun}
+use Rattle.quay.specs.code.Chunk.{ChunkRun}
 
 -- how far the chunks have come: whole records are read, and their lines written
 pub record ChunksRun (q₀ q : Quay) (file₀ file lines₀ lines : Option (List ℕ)) : Type 0 where

@@ -1,2 +1,2 @@
 -- What the contracts of quay cite.
-pub mod Chunk
+pub mod code

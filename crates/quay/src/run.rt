@@ -2,7 +2,7 @@
 ghost use Rattle.std.specs.Prelude.{◌<◌, ◌≤◌, length, take, IfOk, OnOk, IfSome};
 ghost use Rattle.std.specs.Io.KnownBytes.{Consumes, Appends, IsAtEnd};
 ghost use Rattle.steps.specs.Run.{quay, quay_of};
-ghost use Rattle.quay.specs.Chunk.{ChunkRun};
+ghost use Rattle.quay.specs.code.Chunk.{ChunkRun};
 
 use std::io;
 use std::io::{Read, Write};
