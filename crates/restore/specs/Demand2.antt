@@ -49,7 +49,7 @@ goes_home place e = not (eqb (code_of place e.state) invalid) && not (shared_in 
 
 pub record Demand2 : Type 0 where
   -- "Copy states, values served and word stores are those of the Extended Coherence Protocol in the store order of document 01": the contract of each
-  -- call is `Meets` of its plan, for all inputs and every limit; the plans are the definitions formatOf, read_of, .. recoverOf.
+  -- call is `Meets` of its plan, for all inputs and every limit; the plans are the definitions format_of, read_of, .. recover_of.
 
   -- "On a formatted table, any call cut since having ended in an accepted recovery as in 3, a read gives the value last written to the item since
   -- the last finished recovery or formatting, else the recovery point's."

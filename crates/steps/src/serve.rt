@@ -82,7 +82,7 @@ fn carry_lent(table: &mut [u64], scratch: &mut [u64], whole: bool, call: Call) -
 fn counted(progress: Progress, formatted: bool) -> Progress
     ensures { result ≡ Run·counted progress formatted }
 {
-    let records = progress.records.wrapping_add(1);
+    let records = std::num::wrapping_add_u64(progress.records, 1);
     Progress { formatted, records }
 }
 

@@ -108,7 +108,7 @@ pub bytes_of_a_write : record_of (34 ∷ replicate 14 0 ++ (7 ∷ 255 ∷ [])) �
 unfolding place_by lost_by call_by unused_zero format_step call_step step_of record_of
 bytes_of_a_write = refl
 
--- "a cut_off last record"
+-- "a cut-off last record"
 pub cut_off : record_of (34 ∷ replicate 14 0) ≡ Malformed
 unfolding record_of
 cut_off = refl
@@ -130,7 +130,7 @@ pub longest :
 unfolding digits_in
 longest = refl
 
--- two records and a cut_off one: three steps
+-- two records and a cut-off one: three steps
 pub three_steps : steps_in (34 ∷ replicate 15 0 ++ (64 ∷ replicate 15 0) ++ (64 ∷ [])) ≡ Asked (Write 2 0 0) ∷ Asked Open ∷ Malformed ∷ []
 unfolding place_by lost_by call_by unused_zero format_step call_step step_of record_of steps_up_to
 three_steps = refl
