@@ -1,10 +1,10 @@
 #!/usr/bin/env python3
-"""Spells this repository's own definitions and lemmas as today's Rattle does: words in snake case (`stateOf` becomes
-`state_of`, `every-at` becomes `every_at`). Types and modules keep their names, as do the functions of src/, exported
+"""Spells this repository's own definitions and lemmas as today's Rattle does: words in snake case (`nodesOf` becomes
+`nodes_of`, `every-at` becomes `every_at`). Types and modules keep their names, as do the functions of src/, exported
 names, strings, inputs and outputs.
 
-    tools/spelling.py            at the top of the repository, once, after the toolchain's own script
-    tools/spelling.py --list     prints old and new names, and changes nothing
+    tools/spelling.py            at the top of the repository, once, right after the toolchain's own script
+    tools/spelling.py --list     prints old and new names, and changes nothing: at the same place
 
 Where a lemma would get the name of a definition, or of another lemma that stood before it, it gets `_lem`.
 """
@@ -14,13 +14,15 @@ import re
 import sys
 
 SUB = '\u2080-\u209c'
-WORD = re.compile(r"(?<![A-Za-z0-9_'\u2032%s-])[A-Za-z_][A-Za-z0-9_'\u2032%s]*(?:-[A-Za-z0-9_'\u2032%s]+)*" % (SUB, SUB, SUB))
-NAME = r"[A-Za-z_][A-Za-z0-9_'\u2032%s-]*" % SUB
-DECLARED = re.compile(r"^\s*(?:(?:abbrev|unfoldable|pub|opaque)\s+)*(?:(?:record|data)\s+)?(%s)(?=\s*:(?:\s|$)|\s+\()" % NAME, re.M)
+LETTERS = "A-Za-z0-9_'\u2032" + SUB
+WORD = re.compile(r"(?<![%s-])[A-Za-z_][%s]*(?:-[%s]+)*" % (LETTERS, LETTERS, LETTERS))
+NAME = r"[A-Za-z_][%s-]*" % LETTERS
+MARKS = r"(?:(?:abbrev|unfoldable|pub|opaque)\s+)*(?:(?:record|data)\s+)?"
+DECLARED = re.compile(r"^\s*%s(%s)(?=\s*:(?:\s|$)|\s+\()" % (MARKS, NAME), re.M)
 TYPES = re.compile(r"^\s*(?:pub\s+)?(?:record|data)\s+(%s)" % NAME, re.M)
-# What the checker makes, which is named after the source, and modules of such names.
 # A field of specs/ that a lemma of another crate shares its name with, and the crate that has the field.
 APART = {'read-value': 'restore'}
+# What the checker makes is named after the source.
 MADE = re.compile(r'^(?:Need|After|Then|Else|returns|loop)-')
 
 
@@ -76,6 +78,8 @@ def together():
 def renamed():
     specs, laws, proofs, types = declared()
     for name in APART:
+        if name not in specs:
+            sys.exit('this repository is respelled already')
         del specs[name]
     library = imported()
     words = list(together())
