@@ -27,10 +27,12 @@ pub mod MarksSound
 pub mod KindMoved
 pub mod OpenSound
 pub mod AbandonSound
+pub mod CommitOff
 pub mod CommitSound
 pub mod CommitCount
 pub mod CommitLength
 pub mod CreateSound
+pub mod CreateFrames
 pub mod CreateRoom
 pub mod SaveSteps
 pub mod CommitServes

@@ -1,5 +1,5 @@
 // Tests, sums, counts and searches over the numbers below a bound, as laws; a choice without a branch; the nodes in
-// cyclic order.
+// cyclic order; a word as a mask.
 #![tactic(auto)]
 
 pub mod bits;

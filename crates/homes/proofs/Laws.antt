@@ -26,6 +26,7 @@ pub mod FormattedServes
 pub mod EvictDone
 pub mod EvictLeaves
 pub mod EvictKind
+pub mod EvictOff
 pub mod EvictSound
 pub mod EvictServes
 pub mod Unread

@@ -17,7 +17,6 @@ use Rattle.table.proofs.Laws.Words.{current_state, kept_state}
 use Rattle.table.proofs.Laws.Forms.{form_facts}
 use Rattle.table.specs.Changes.{change_of}
 use Rattle.table.specs.Stores.{Store, after}
-use Rattle.table.proofs.Laws.Stores.{All, all_then}
 use Rattle.table.specs.View.{Entry, View, view, live, current, kept}
 use Rattle.table.specs.Answers.{carry}
 use Rattle.entries.specs.declared.check.Checked.TheVariants.{Passed}
@@ -27,18 +26,18 @@ use Rattle.entries.proofs.Laws.Kinds.{clean_code, Clean, Owned, modified_at, own
 use Rattle.entries.proofs.Laws.SoundFacts.{SoundTable, number_in}
 use Rattle.entries.proofs.Laws.CheckFacts.{Accepted, facts_accepted}
 use Rattle.homes.specs.declared.admission.Admission.TheVariants.{Admitted}
-use Rattle.checkpoints.specs.declared.checkpoint.Closing.TheVariants.{Committed}
 use Rattle.entries.specs.Dirty.{owns}
-use Rattle.checkpoints.specs.Checkpoint.{is_precommit, close_change, to_commit}
-use Rattle.checkpoints.specs.Commit.{committing_mark, committed_mark, commit_stores, commit_admission, commit_of}
+use Rattle.checkpoints.specs.Checkpoint.{is_precommit, to_commit}
+use Rattle.checkpoints.specs.Commit.{commit_admission, commit_of}
 use Rattle.homes.proofs.Laws.Kept.{live_test, test_live}
-use Rattle.homes.proofs.Laws.SoundKept.{Off, shape_after}
-use Rattle.checkpoints.proofs.Laws.MarksSound.{marks_off, entries_off, commit_opened, NewMarks, new_live, marks_sound}
+use Rattle.homes.proofs.Laws.SoundKept.{shape_after}
+use Rattle.checkpoints.proofs.Laws.MarksSound.{commit_opened, NewMarks, new_live, marks_sound}
 use Rattle.checkpoints.proofs.Laws.KindMoved.{Moves, created_moves, not_precommit, clean_moved, clean_value, first_moved, second_moved, codes_moved, values_moved}
 use Rattle.checkpoints.proofs.Laws.NoneOwned.{none_owned}
 use Rattle.checkpoints.proofs.Laws.CommitEntry.{committed_by, committed}
 use Rattle.checkpoints.proofs.Laws.CommitKept.{KeptForward, CommitEnd}
 use Rattle.checkpoints.proofs.Laws.CommitTheorem.{carried, facts, commit_keeps, commit_committed}
+use Rattle.checkpoints.proofs.Laws.CommitOff.{commit_off}
 
 -- ---- one entry
 
@@ -171,10 +170,6 @@ module _
   committed_sound =
       marks_sound g v w 0 (number + 1) commit_marks phase number good (omega arith) (omega (arith, room)) (λ e. absurd (omega arith))
       keeps.forms keeps.frames (λ b h. clean (committed_saves b h).clean_after)
-
-pub commit_off : (g : Geometry) (v : View) → All (Off g) (commit_stores g v)
-unfolding commit_stores
-commit_off g v = all_then (all_then (marks_off g v committing_mark) (entries_off g v (close_change Committed))) (marks_off g v committed_mark)
 
 module _
     (t : List ℕ) {g : Geometry} {value : ℕ} {ss : List Store} (accepted : commit_of t ≡ carry g value ss) (limit : ℕ) (whole : length ss ≤ limit) where

@@ -32,7 +32,7 @@ use Rattle.homes.proofs.Laws.Kept.{Kept, live_test}
 use Rattle.homes.proofs.Laws.Placed.{placed_current, placed_kept}
 use Rattle.checkpoints.proofs.Laws.Created.{Pairing, Paired}
 use Rattle.checkpoints.proofs.Laws.CreateVia.{owns_not}
-use Rattle.homes.proofs.Laws.EvictSound.{home_off}
+use Rattle.homes.proofs.Laws.EvictOff.{home_off}
 use Rattle.homes.proofs.Laws.SoundKept.{Off, entry_off, shape_after, kind_same, saved_kept, sound_kept}
 use Rattle.checkpoints.proofs.Laws.MarksSound.{opened}
 use Rattle.checkpoints.proofs.Laws.CreateTheorem.{acted, creates, stores_are, facts, create_found, create_keeps, create_created}

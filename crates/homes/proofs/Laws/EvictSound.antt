@@ -2,8 +2,8 @@
 use Prim.Native.Nat.{ℕ, ◌≤◌, ◌<◌}
 use mathlib.Core.Path.{◌≡◌, sym, ap, ◌∙◌}
 use mathlib.Core.Logic.{◌≢◌, ◌⊎◌, inl, inr}
-use mathlib.Core.Bool.{Bool, true, false, cond}
-use mathlib.Core.List.{List, [], ◌∷◌, ◌++◌, map}
+use mathlib.Core.Bool.{true, false, cond}
+use mathlib.Core.List.{List}
 use native.Mathlib.Omega.{arith}
 use native.Mathlib.Decide.{ℕ_discrete}
 use lib.Dec.{eqb}
@@ -11,11 +11,10 @@ use lib.ListN.{length}
 use borrow.Author.Tests.{eqb-true, eqb-false, eq-eqb, ne_eqb}
 use Rattle.counting.proofs.Laws.Tests.{both, either, by_cases}
 use Rattle.table.specs.declared.geometry.Geometry.{Geometry}
-use Rattle.table.specs.Words.{kept_of, invalid, shared}
+use Rattle.table.specs.Words.{invalid, shared}
 use Rattle.table.proofs.Laws.Words.{current_state, kept_state}
 use Rattle.table.proofs.Laws.Forms.{form_facts}
-use Rattle.table.specs.Stores.{Store, entry_store, state_to, after}
-use Rattle.table.proofs.Laws.Stores.{All, none, all_then}
+use Rattle.table.specs.Stores.{Store, after}
 use Rattle.table.specs.View.{View, view, current, kept}
 use Rattle.table.specs.Answers.{carry}
 use Rattle.entries.specs.declared.check.Checked.TheVariants.{Passed}
@@ -26,40 +25,20 @@ use Rattle.entries.proofs.Laws.SoundFacts.{SoundTable, phase_in, number_in}
 use Rattle.entries.proofs.Laws.CheckFacts.{Accepted, accepted_facts, facts_accepted}
 use Rattle.homes.specs.declared.places.Place.{Place}
 use Rattle.homes.specs.declared.places.Place.TheVariants.{Current, Kept}
-use Rattle.homes.specs.declared.home.Arrival.{Arrival}
 use Rattle.homes.specs.Places.{code_in}
-use Rattle.homes.specs.Home.{place_fits, home_of, current_left, drop_stores, arrival_changes, home_stores_by, home_stores}
-use Rattle.homes.specs.Evict.{dropped, source_stores, state_left, moved_to, moved_stores, evict_admission, evict_stores, evict_of}
+use Rattle.homes.specs.Home.{place_fits, home_of, current_left}
+use Rattle.homes.specs.Evict.{dropped, evict_admission, evict_stores, evict_of}
 use Rattle.homes.proofs.Laws.EvictTells.{Leaving, evict_leaving}
 use Rattle.homes.proofs.Laws.EvictTheorem.{admits, evict_home, evict_drops_keeps, evict_moves_keeps}
 use Rattle.homes.proofs.Laws.Plans.{Carried, acted_carried}
 use Rattle.homes.proofs.Laws.Kept.{Live, live_test}
 use Rattle.homes.proofs.Laws.SoundTells.{formed_at}
-use Rattle.homes.proofs.Laws.SoundKept.{Off, entry_off, shape_after, kind_same, sound_held, sound_kept}
+use Rattle.homes.proofs.Laws.SoundKept.{shape_after, kind_same, sound_held, sound_kept}
 use Rattle.homes.proofs.Laws.Placed.{placed_current, placed_kept}
 use Rattle.homes.proofs.Laws.EvictDone.{home_drops, SharedDropped, WentHome}
 use Rattle.homes.proofs.Laws.EvictLeaves.{evict_evicted}
+use Rattle.homes.proofs.Laws.EvictOff.{evict_off}
 use Rattle.homes.proofs.Laws.EvictKind.{Between, CurrentGone, KeptGone, kind_current, kind_kept}
-
--- ---- no store is at word 0
-
-pub home_off : (g : Geometry) (place : Place) (h b code value : ℕ) (a : Arrival) → All (Off g) (home_stores_by place h b code value a)
-unfolding home_stores_by drop_stores
-home_off g place h b code value a = go a.takeover a.drops
-  where
-    go : (q r : Bool) → All (Off g) (cond q (entry_store h b (state_to code a.kept) ∷ [])
-        (cond r (entry_store h a.dropped (state_to invalid (kept_of a.beside)) ∷ []) [] ++ map (entry_store h b) (arrival_changes place code value a)))
-    go true r = entry_off g h b (state_to code a.kept ∷ [])
-    go false true = all_then (entry_off g h a.dropped (state_to invalid (kept_of a.beside) ∷ [])) (entry_off g h b (arrival_changes place code value a))
-    go false false = entry_off g h b (arrival_changes place code value a)
-
-pub evict_off : (g : Geometry) (v : View) (place : Place) (n b : ℕ) → All (Off g) (evict_stores g v place n b)
-unfolding evict_stores moved_to home_stores source_stores
-evict_off g v place n b = all_then (go (dropped place (v.entry n b))) (entry_off g n b (state_left place (v.entry n b).state ∷ []))
-  where
-    go : (q : Bool) → All (Off g) (cond q [] (moved_stores g v place n b))
-    go true = none
-    go false = home_off g place _ b _ _ _
 
 module _ (g : Geometry) (v w : View) (phase number n b : ℕ) (good : SoundTable g v phase number) (source : Live g v n) (item : b < g.items) where
   -- ---- a Shared copy was dropped

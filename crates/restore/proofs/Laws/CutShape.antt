@@ -22,7 +22,7 @@ use Rattle.calls.proofs.Laws.WriteTheorem.{carried as write-carried}
 use Rattle.calls.proofs.Laws.WriteSound.{write_off}
 use Rattle.homes.specs.Evict.{evict_of}
 use Rattle.homes.proofs.Laws.EvictTheorem.{carried as evict-carried}
-use Rattle.homes.proofs.Laws.EvictSound.{evict_off}
+use Rattle.homes.proofs.Laws.EvictOff.{evict_off}
 use Rattle.checkpoints.specs.Open.{creating_mark, open_of}
 use Rattle.checkpoints.proofs.Laws.OpenTheorem.{carried as open_carried}
 use Rattle.checkpoints.specs.Create.{create_of}
@@ -30,7 +30,7 @@ use Rattle.checkpoints.proofs.Laws.CreateTheorem.{passed as create-passed, store
 use Rattle.checkpoints.proofs.Laws.CreateSound.{create_off}
 use Rattle.checkpoints.specs.Commit.{commit_of, abandon_of}
 use Rattle.checkpoints.proofs.Laws.CommitTheorem.{carried as commit_carried}
-use Rattle.checkpoints.proofs.Laws.CommitSound.{commit_off}
+use Rattle.checkpoints.proofs.Laws.CommitOff.{commit_off}
 use Rattle.checkpoints.proofs.Laws.AbandonTheorem.{carried as abandon-carried}
 use Rattle.checkpoints.proofs.Laws.AbandonSound.{abandon_off}
 use Rattle.restore.specs.declared.call.Call.{Call}
