@@ -8,8 +8,7 @@ use Rattle.table.specs.Changes.{checkpoint_of}
 use Rattle.table.specs.Stores.{Store, Change, entry_store, state_to, value_to}
 use Rattle.table.specs.View.{Entry, View, current, pass}
 use Rattle.table.specs.Answers.{Plan, carry}
-use Rattle.homes.specs.declared.admission.Admission.{Admission}
-use Rattle.homes.specs.Admission.{admission_of, frame_admission, plan_by}
+use Rattle.homes.specs.Admission.{Admission, admission_of, frame_admission, plan_by}
 use Rattle.calls.specs.Transitions.{keep_copy, change_by}
 
 -- ---- the stores

@@ -1,71 +1,67 @@
 // Write: a node sets the value of an item.
 ghost use Rattle.std.specs.Prelude.{◌≡◌, ◌<◌, ◌≤◌, length};
 ghost use Rattle.table.specs.Geometry.{words_of};
-ghost use Rattle.table.specs.Stores.{Stored, StoredIn};
+ghost use Rattle.table.specs.Made.{Made, MadeIn, shown};
 ghost use Rattle.table.specs.View.{view};
 ghost use Rattle.table.specs.Answers.{Meets};
+ghost use Rattle.homes.specs.code.Ready.{ready_of};
 ghost use Rattle.calls.specs.Write.{needs_frame, write_admission, other_changes, other_stores, kept_after, own_keep, own_changes, write_stores, write_of};
 
-use entries::check::Checked;
-use homes::admission::Admission;
 use table::answers::{Answer, Refusal};
 use table::changes::Event;
 use table::geometry::Geometry;
+use table::stores::Stores;
 use table::words::{INVALID, MODIFIED, SHARED_CK1, SHARED_CK2};
 
 // Whether a write at an entry takes a frame more.
 fn needs_frame(current: u8) -> bool
     ensures { result ≡ needs_frame current }
 {
-    (current == INVALID) | ((current == SHARED_CK1) | (current == SHARED_CK2))
+    matches!(current, INVALID | SHARED_CK1 | SHARED_CK2)
 }
 
 // The refusals after the table checks, in their order.
-fn admit_write(table: &[u64], g: Geometry, node: u64, item: u64) -> Admission
+fn admit_write(table: &[u64], g: Geometry, node: u64, item: u64) -> Result<(), Refusal>
     ensures { result ≡ write_admission g (view g table.now) node item }
 {
-    let admission = homes::admission::admit(table, g, node, item);
-    match admission {
-        Admission::Turned(x) => Admission::Turned(x),
-        Admission::Admitted => {
-            let n = node as u8;
-            let b = item as u16;
-            let current = table::words::current_of(table::stores::state_at(table, g, n, b));
-            let needed = needs_frame(current);
-            let full = homes::admission::frame_full(table, g, n, b, needed);
-            if full {
-                return Admission::Turned(Refusal::NoFrame);
-            }
-            Admission::Admitted
-        }
+    homes::admission::admit(table, g, node, item)?;
+    let n = node as u8;
+    let b = item as u16;
+    let current = table::words::current_of(table::stores::state_at(table, g, n, b));
+    if homes::admission::frame_full(table, g, n, b, needs_frame(current)) {
+        return Err(Refusal::NoFrame);
     }
+    Ok(())
+}
+
+// The table checks, then the refusals of Write.
+fn ready(table: &[u64], node: u64, item: u64) -> Result<Geometry, Refusal>
+    ensures { result ≡ ready_of (λ g v. write_admission g v node item) table.now }
+{
+    let g = entries::check::check_table(table)?;
+    admit_write(table, g, node, item)?;
+    Ok(g)
 }
 
 // The turn of one node: the writer and dead nodes are passed over.
-fn other_node(table: &mut [u64], left: u64, g: Geometry, writer: u8, item: u16, node: u8) -> u64
-    ensures { StoredIn g left node item (other_changes (view g table.old) writer item node) table.old table.new result }
+fn other_node(stores: &mut Stores, writer: u8, item: u16, node: u8)
+    ensures { MadeIn stores.old node item (other_changes (shown stores.old) writer item node) stores.new }
 {
-    let mark = table::stores::mark_at(table, g, node);
-    let passed = (node == writer) | (mark == 0);
-    if passed {
-        return left;
+    let mark = stores.mark(node);
+    if node == writer || mark == 0 {
+        return;
     }
-    crate::transitions::change_by(table, left, g, node, item, Event::OtherWrites)
+    crate::transitions::change_by(stores, node, item, Event::OtherWrites);
 }
 
 // The other live nodes, ascending.
-fn other_nodes(table: &mut [u64], left: u64, g: Geometry, writer: u8, item: u16) -> u64
-    requires { (item < g.items) × (words_of g ≤ length table.old) }
-    ensures { Stored g left (other_stores g (view g table.old) writer item) table.old table.new result }
+fn other_nodes(stores: &mut Stores, writer: u8, item: u16)
+    requires { (item < stores.old.g.items) × (words_of stores.old.g ≤ length stores.old.table.now) }
+    ensures { Made stores.old (other_stores stores.old.g (shown stores.old) writer item) stores.new }
 {
-    let nodes = g.nodes;
-    let mut left = left;
-    let mut node: u8 = 0;
-    while node < nodes {
-        left = other_node(table, left, g, writer, item, node);
-        node += 1;
+    for node in 0..stores.g.nodes {
+        other_node(stores, writer, item, node);
     }
-    left
 }
 
 // The kept place of an entry once its own recovery copy, if it has one, is kept.
@@ -74,67 +70,59 @@ fn kept_after(state: u64) -> u8
 {
     let own = table::changes::checkpoint_of(table::words::current_of(state));
     if own == 0 {
-        return table::words::kept_of(state);
+        table::words::kept_of(state)
+    } else {
+        own
     }
-    own
 }
 
 // The writer's own recovery copy, if it has one, moves to its kept place.
-fn own_keep(
-    table: &mut [u64],
-    left: u64,
-    g: Geometry,
-    node: u8,
-    item: u16,
-    state: u64,
-    old: u64,
-) -> u64
-    ensures { StoredIn g left node item (own_keep state old) table.old table.new result }
+fn own_keep(stores: &mut Stores, node: u8, item: u16, state: u64, old: u64)
+    ensures { MadeIn stores.old node item (own_keep state old) stores.new }
 {
     let number = table::changes::checkpoint_of(table::words::current_of(state));
-    if number == 0 {
-        return left;
+    if number != 0 {
+        crate::transitions::keep_copy(stores, node, item, number, old);
     }
-    crate::transitions::keep_copy(table, left, g, node, item, number, old)
 }
 
 // The writer's entry: its own keep, then current value, then state Modified.
-fn own_entry(table: &mut [u64], left: u64, g: Geometry, node: u8, item: u16, value: u64) -> u64
-    ensures { StoredIn g left node item (own_changes ((view g table.old).entry node item) value) table.old table.new result }
+fn own_entry(stores: &mut Stores, node: u8, item: u16, value: u64)
+    ensures { MadeIn stores.old node item (own_changes ((shown stores.old).entry node item) value) stores.new }
 {
-    let state = table::stores::state_at(table, g, node, item);
-    let old = table::stores::value_at(table, g, node, item);
+    let state = stores.state(node, item);
+    let old = stores.value(node, item);
     let kept = kept_after(state);
-    let left = own_keep(table, left, g, node, item, state, old);
-    let left = table::stores::store_value(table, left, g, node, item, value);
-    table::stores::store_state(table, left, g, node, item, MODIFIED, kept)
+    own_keep(stores, node, item, state, old);
+    stores.store_value(node, item, value);
+    stores.store_state(node, item, MODIFIED, kept);
 }
 
 // All stores of a write.
-fn write_stores(table: &mut [u64], left: u64, g: Geometry, node: u8, item: u16, value: u64) -> u64
-    requires { (item < g.items) × (words_of g ≤ length table.old) }
-    ensures { Stored g left (write_stores g (view g table.old) node item value) table.old table.new result }
+fn write_stores(stores: &mut Stores, node: u8, item: u16, value: u64)
+    requires { (item < stores.old.g.items) × (words_of stores.old.g ≤ length stores.old.table.now) }
+    ensures { Made stores.old (write_stores stores.old.g (shown stores.old) node item value) stores.new }
 {
-    let left = other_nodes(table, left, g, node, item);
-    own_entry(table, left, g, node, item, value)
+    other_nodes(stores, node, item);
+    own_entry(stores, node, item, value);
 }
 
 // A node sets the value of an item, in at most `limit` stores.
 pub fn write(table: &mut [u64], node: u64, item: u64, value: u64, limit: u64) -> Answer
     ensures { Meets (write_of table.old node item value) limit table.old table.new result }
 {
-    let checked = entries::check::check_table(table);
-    match checked {
-        Checked::Failed(x) => Answer::Refused(x),
-        Checked::Passed(g) => {
-            let admission = admit_write(table, g, node, item);
-            match admission {
-                Admission::Turned(x) => Answer::Refused(x),
-                Admission::Admitted => {
-                    let left = write_stores(table, limit, g, node as u8, item as u16, value);
-                    let stores = limit - left;
-                    Answer::Done { value: 0, stores }
-                }
+    match ready(table, node, item) {
+        Err(refusal) => Answer::Refused(refusal),
+        Ok(g) => {
+            let mut stores = Stores {
+                table,
+                g,
+                left: limit,
+            };
+            write_stores(&mut stores, node as u8, item as u16, value);
+            Answer::Done {
+                value: 0,
+                stores: limit - stores.left,
             }
         }
     }

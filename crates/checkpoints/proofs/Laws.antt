@@ -1,9 +1,6 @@
 -- The laws of the definitions of `specs/`, for the proofs of this crate and of the crates over it.
 pub mod Checkpoint
 pub mod Closing
-pub mod Open
-pub mod Commit
-pub mod CommitReady
 pub mod ClosingCode
 pub mod CreateCode
 pub mod KeptMarks

@@ -1,17 +1,14 @@
 -- What Open, Create, Commit and Abandon have in common: the phase, the entries by node, then item.
-use Rattle.std.specs.Prelude.{ℕ, ◌*◌, ◌/◌, ◌%◌, Bool, cond, ◌||◌, not, List, [], ◌∷◌, eqb}
+use Rattle.homes.specs.Admission.{Admission}
+use Rattle.std.specs.Prelude.{ℕ, ◌*◌, ◌/◌, ◌%◌, Bool, cond, ◌||◌, not, List, [], ◌∷◌, eqb, Err, Ok}
 use Rattle.counting.specs.Counting.{first}
 use Rattle.table.specs.declared.geometry.Geometry.{Geometry}
 use Rattle.table.specs.declared.answers.Refusal.TheVariants.{NoCheckpoint}
 use Rattle.table.specs.Words.{precommit1, precommit2, current_of, kept_of, phase_of, invalid}
 use Rattle.table.specs.Stores.{Store, Change, state_to}
 use Rattle.table.specs.View.{Entry, View, live, current, kept, pass}
-use Rattle.homes.specs.declared.admission.Admission.{Admission}
-use Rattle.homes.specs.declared.admission.Admission.TheVariants.{Admitted, Turned}
 use Rattle.table.specs.declared.changes.Event.TheVariants.{Commit, Abandon}
 use Rattle.table.specs.Changes.{change_of}
-use Rattle.checkpoints.specs.declared.checkpoint.Closing.{Closing}
-use Rattle.checkpoints.specs.declared.checkpoint.Closing.TheVariants.{Committed, Abandoned}
 
 -- ---- the phase
 
@@ -25,7 +22,7 @@ is_open g v = eqb (phase_of (common_mark g v)) 1
 
 -- "8 no checkpoint open"
 unfoldable pub open_admission : Geometry → View → Admission
-open_admission g v = cond (is_open g v) Admitted (Turned NoCheckpoint)
+open_admission g v = cond (is_open g v) (Ok tt) (Err NoCheckpoint)
 
 -- ---- passes
 
@@ -57,7 +54,3 @@ commit_change e = cond (to_commit e.state) (state_to (change_of (current e) Comm
 -- the kept place stays
 unfoldable pub abandon_change : Entry → List Change
 abandon_change e = cond (is_precommit (current e)) (state_to (change_of (current e) Abandon) (kept e) ∷ []) []
-
-unfoldable pub close_change : Closing → Entry → List Change
-close_change Committed e = commit_change e
-close_change Abandoned e = abandon_change e

@@ -1,18 +1,15 @@
 -- Commit: "each live mark, phase 2 and number plus 1, ascending; entries by node, then item, one state store where Precommit or Inv-CK
 -- stands; each live mark, phase 0."
-use Rattle.std.specs.Prelude.{ℕ, ◌+◌, cond, List, [], ◌++◌, length}
+use Rattle.std.specs.Prelude.{ℕ, ◌+◌, cond, List, [], ◌++◌, length, Err, Ok}
 use Rattle.table.specs.declared.geometry.Geometry.{Geometry}
 use Rattle.table.specs.declared.answers.Refusal.TheVariants.{NotCreated}
 use Rattle.table.specs.Words.{number_of, mark_word}
 use Rattle.table.specs.Stores.{Store}
 use Rattle.table.specs.View.{View, marks_to}
 use Rattle.table.specs.Answers.{Plan, refuse, nothing_left, carry}
-use Rattle.homes.specs.declared.admission.Admission.{Admission}
-use Rattle.homes.specs.declared.admission.Admission.TheVariants.{Admitted, Turned}
-use Rattle.checkpoints.specs.declared.checkpoint.Closing.TheVariants.{Committed, Abandoned}
-use Rattle.homes.specs.Admission.{plan_by}
+use Rattle.homes.specs.Admission.{Admission, plan_by}
 use Rattle.entries.specs.Dirty.{none_dirty}
-use Rattle.checkpoints.specs.Checkpoint.{open_admission, entries_to, close_change}
+use Rattle.checkpoints.specs.Checkpoint.{open_admission, entries_to, commit_change, abandon_change}
 
 -- ---- the stores
 
@@ -25,14 +22,14 @@ abbrev pub committed_mark : ℕ → ℕ
 committed_mark w = mark_word 0 (number_of w + 1)
 
 unfoldable pub commit_stores : Geometry → View → List Store
-commit_stores g v = (marks_to g v committing_mark ++ entries_to g v (close_change Committed)) ++ marks_to g v committed_mark
+commit_stores g v = (marks_to g v committing_mark ++ entries_to g v commit_change) ++ marks_to g v committed_mark
 
 -- ---- the refusals
 
 -- "8; 12 a dirty item not created"
 unfoldable pub created_admission : Geometry → View → Admission → Admission
-created_admission g v (Turned x) = Turned x
-created_admission g v Admitted = cond (none_dirty g v) Admitted (Turned NotCreated)
+created_admission g v (Err x) = Err x
+created_admission g v (Ok _) = cond (none_dirty g v) (Ok tt) (Err NotCreated)
 
 abbrev pub commit_admission : Geometry → View → Admission
 commit_admission g v = created_admission g v (open_admission g v)
@@ -60,7 +57,7 @@ abbrev pub running_mark : ℕ → ℕ
 running_mark w = mark_word 0 (number_of w)
 
 unfoldable pub abandon_stores : Geometry → View → List Store
-abandon_stores g v = entries_to g v (close_change Abandoned) ++ marks_to g v running_mark
+abandon_stores g v = entries_to g v abandon_change ++ marks_to g v running_mark
 
 -- ---- the plan
 

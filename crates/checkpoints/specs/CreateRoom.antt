@@ -1,11 +1,10 @@
 -- FRAMES FOR FOUR COPIES, as one type: "Create is never refused with 11 while at most one node is dead." (K2)
-use Rattle.std.specs.Prelude.{ℕ, ◌*◌, ◌≤◌, ◌≡◌, ◌≢◌, not, List}
+use Rattle.std.specs.Prelude.{ℕ, ◌*◌, ◌≤◌, ◌≡◌, ◌≢◌, not, List, Ok}
 use Rattle.counting.specs.Counting.{count}
 use Rattle.table.specs.declared.geometry.Geometry.{Geometry}
 use Rattle.table.specs.declared.answers.Refusal.{Refusal}
 use Rattle.table.specs.View.{View, view, live}
 use Rattle.table.specs.Answers.{refuse, refusal_number}
-use Rattle.entries.specs.declared.check.Checked.TheVariants.{Passed}
 use Rattle.entries.specs.Check.{fault_of}
 use Rattle.entries.specs.Dirty.{dirty}
 use Rattle.checkpoints.specs.Create.{create_of}
@@ -22,9 +21,9 @@ dirty_items g v = count (dirty g v) g.items
 -- of every table that passes the table checks, whether calls lead to it or not
 pub record CreateRoom : Type 0 where
   pub never_11 :
-      (t : List ℕ) (g : Geometry) → fault_of t ≡ Passed g → dead_nodes g (view g t) ≤ 1
+      (t : List ℕ) (g : Geometry) → fault_of t ≡ Ok g → dead_nodes g (view g t) ≤ 1
       → (r : Refusal) → create_of t ≡ refuse r → refusal_number r ≢ 11
   -- nor with more of them dead, where a node has a frame for every place
   pub ample_11 :
-      (t : List ℕ) (g : Geometry) → fault_of t ≡ Passed g → 2 * g.items ≤ g.frames
+      (t : List ℕ) (g : Geometry) → fault_of t ≡ Ok g → 2 * g.items ≤ g.frames
       → (r : Refusal) → create_of t ≡ refuse r → refusal_number r ≢ 11

@@ -1,46 +1,73 @@
 // Abandon: an open checkpoint is given up.
-ghost use Rattle.table.specs.Stores.{Stored};
-ghost use Rattle.table.specs.View.{view};
+ghost use Rattle.std.specs.Prelude.{◌≡◌};
+ghost use Rattle.table.specs.Made.{Made, shown};
 ghost use Rattle.table.specs.Answers.{Meets};
+ghost use Rattle.homes.specs.code.Ready.{ready_of};
+ghost use Rattle.checkpoints.specs.Checkpoint.{open_admission, abandon_change};
 ghost use Rattle.checkpoints.specs.Commit.{abandon_stores, abandon_of};
 ghost use Rattle.checkpoints.specs.code.Checkpoint.{Agreed};
 
 use crate::checkpoint;
-use crate::checkpoint::Closing;
-use entries::check::Checked;
-use homes::admission::Admission;
-use table::answers::Answer;
+use crate::checkpoint::{Closing, is_precommit};
+use table::answers::{Answer, Refusal};
+use table::changes::{Event, change};
 use table::geometry::Geometry;
+use table::stores::Stores;
 use table::words;
 
-// All stores of an abandon.
-fn abandon_stores(table: &mut [u64], left: u64, g: Geometry) -> u64
-    requires { Agreed g table.old }
-    ensures { Stored g left (abandon_stores g (view g table.old)) table.old table.new result }
+// The table checks, then the refusals of Abandon.
+fn ready(table: &[u64]) -> Result<Geometry, Refusal>
+    ensures { result ≡ ready_of open_admission table.now }
 {
-    let number = words::number_of(checkpoint::common_mark(table, g));
+    let g = entries::check::check_table(table)?;
+    checkpoint::admit_open(table, g)?;
+    Ok(g)
+}
+
+// An abandon: where Precommit stands, the current place turns, and the kept place stays.
+struct Abandoned;
+
+impl Closing for Abandoned {
+    ghost change = { abandon_change };
+
+    // One state store, or none.
+    fn close_entry(stores: &mut Stores, node: u8, item: u16, state: u64) {
+        let current = words::current_of(state);
+        if is_precommit(current) {
+            let kept = words::kept_of(state);
+            let next = change(current, Event::Abandon);
+            stores.store_state(node, item, next, kept);
+        }
+    }
+}
+
+// All stores of an abandon.
+fn abandon_stores(stores: &mut Stores)
+    requires { Agreed stores.old.g stores.old.table.now }
+    ensures { Made stores.old (abandon_stores stores.old.g (shown stores.old)) stores.new }
+{
+    let table = &mut *stores.table;
+    let number = words::number_of(checkpoint::common_mark(table, stores.g));
     let word = words::mark_word(0, number);
-    let left = checkpoint::close_entries(table, left, g, Closing::Abandoned);
-    checkpoint::marks_to(table, left, g, word)
+    checkpoint::close_entries::<Abandoned>(stores);
+    checkpoint::marks_to(stores, word);
 }
 
 // An open checkpoint is given up, in at most `limit` stores.
 pub fn abandon(table: &mut [u64], limit: u64) -> Answer
     ensures { Meets (abandon_of table.old) limit table.old table.new result }
 {
-    let checked = entries::check::check_table(table);
-    match checked {
-        Checked::Failed(x) => Answer::Refused(x),
-        Checked::Passed(g) => {
-            let admission = checkpoint::admit_open(table, g);
-            match admission {
-                Admission::Turned(x) => Answer::Refused(x),
-                Admission::Admitted => {
-                    let left = abandon_stores(table, limit, g);
-                    let stores = limit - left;
-                    Answer::Done { value: 0, stores }
-                }
-            }
+    match ready(table) {
+        Err(refusal) => Answer::Refused(refusal),
+        Ok(g) => {
+            let mut stores = Stores {
+                table,
+                g,
+                left: limit,
+            };
+            abandon_stores(&mut stores);
+            let stores = limit - stores.left;
+            Answer::Done { value: 0, stores }
         }
     }
 }

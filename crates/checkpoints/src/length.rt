@@ -8,8 +8,7 @@ ghost use Rattle.checkpoints.specs.Checkpoint.{to_commit};
 ghost use Rattle.checkpoints.specs.Commit.{commit_stores, commit_length_of};
 ghost use Rattle.checkpoints.specs.code.CommitCode.{node_length};
 
-use crate::{checkpoint, commit};
-use entries::check::Checked;
+use crate::commit;
 use table::answers::Answer;
 use table::geometry::Geometry;
 use table::stores;
@@ -19,15 +18,11 @@ fn row_length(table: &[u64], g: Geometry, node: u8) -> u16
     requires { (node < g.nodes) × (words_of g ≤ length table.now) }
     ensures { result ≡ count (λ b. to_commit ((view g table.now).entry node b).state) g.items }
 {
-    let items = g.items;
+    let start = g.entry_at(node, 0);
     let mut found: u16 = 0;
-    let mut at = g.entry_at(node, 0);
-    let mut item: u16 = 0;
-    while item < items {
-        let state = table[at];
-        found += checkpoint::commits_in(state) as u16;
-        at += Geometry::ENTRY_WORDS;
-        item += 1;
+    for item in 0..g.items {
+        let state = table[start + Geometry::ENTRY_WORDS * item as usize];
+        found += commit::commits_in(state) as u16;
     }
     found
 }
@@ -37,8 +32,7 @@ fn node_length(table: &[u64], g: Geometry, node: u8) -> u32
     requires { (node < g.nodes) × (words_of g ≤ length table.now) }
     ensures { (result ≡ node_length g (view g table.now) node) × (result ≤ 65537) }
 {
-    let mark = stores::mark_at(table, g, node);
-    if mark == 0 {
+    if stores::mark_at(table, g, node) == 0 {
         return 0;
     }
     2 + row_length(table, g, node) as u32
@@ -49,12 +43,9 @@ fn stores_length(table: &[u64], g: Geometry) -> u32
     requires { words_of g ≤ length table.now }
     ensures { result ≡ length (commit_stores g (view g table.now)) }
 {
-    let nodes = g.nodes;
     let mut found: u32 = 0;
-    let mut node: u8 = 0;
-    while node < nodes {
+    for node in 0..g.nodes {
         found += node_length(table, g, node);
-        node += 1;
     }
     found
 }
@@ -63,10 +54,9 @@ fn stores_length(table: &[u64], g: Geometry) -> u32
 pub fn commit_length(table: &[u64]) -> Answer
     ensures { Told (commit_length_of table.now) table.now result }
 {
-    let checked = commit::ready(table);
-    match checked {
-        Checked::Failed(x) => Answer::Refused(x),
-        Checked::Passed(g) => {
+    match commit::ready(table) {
+        Err(refusal) => Answer::Refused(refusal),
+        Ok(g) => {
             let value = stores_length(table, g) as u64;
             Answer::Done { value, stores: 0 }
         }

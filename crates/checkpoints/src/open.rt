@@ -1,61 +1,68 @@
 // Open: a checkpoint begins.
 ghost use Rattle.std.specs.Prelude.{◌≡◌};
-ghost use Rattle.table.specs.Stores.{Stored};
+ghost use Rattle.table.specs.Made.{Made, shown};
 ghost use Rattle.table.specs.View.{view};
 ghost use Rattle.table.specs.Answers.{Meets};
+ghost use Rattle.homes.specs.code.Ready.{ready_of};
 ghost use Rattle.checkpoints.specs.Open.{start_admission, open_stores, open_of};
 ghost use Rattle.checkpoints.specs.code.Checkpoint.{Agreed};
 
 use crate::checkpoint;
-use entries::check::Checked;
-use homes::admission::Admission;
 use table::answers::{Answer, Refusal};
 use table::geometry::Geometry;
+use table::stores::Stores;
 use table::words;
 
 // 7 a checkpoint is open; 13 the number is the last.
-fn admit_start(table: &[u64], g: Geometry) -> Admission
+#[tactic(auto, unfolding(crate::specs::Open::start_admission, crate::specs::Checkpoint::is_open))]
+fn admit_start(table: &[u64], g: Geometry) -> Result<(), Refusal>
     ensures { result ≡ start_admission g (view g table.now) }
 {
     let mark = checkpoint::common_mark(table, g);
-    let phase = words::phase_of(mark);
-    let number = words::number_of(mark);
-    if phase == 1 {
-        return Admission::Turned(Refusal::CheckpointOpen);
+    if words::phase_of(mark) == 1 {
+        return Err(Refusal::CheckpointOpen);
     }
-    if number == 0xffff_ffff {
-        return Admission::Turned(Refusal::LastNumber);
+    if words::number_of(mark) == u32::MAX {
+        return Err(Refusal::LastNumber);
     }
-    Admission::Admitted
+    Ok(())
+}
+
+// The table checks, then the refusals of Open.
+fn ready(table: &[u64]) -> Result<Geometry, Refusal>
+    ensures { result ≡ ready_of start_admission table.now }
+{
+    let g = entries::check::check_table(table)?;
+    admit_start(table, g)?;
+    Ok(g)
 }
 
 // All stores of an open.
-fn open_stores(table: &mut [u64], left: u64, g: Geometry) -> u64
-    requires { Agreed g table.old }
-    ensures { Stored g left (open_stores g (view g table.old)) table.old table.new result }
+fn open_stores(stores: &mut Stores)
+    requires { Agreed stores.old.g stores.old.table.now }
+    ensures { Made stores.old (open_stores stores.old.g (shown stores.old)) stores.new }
 {
-    let number = words::number_of(checkpoint::common_mark(table, g));
+    let table = &mut *stores.table;
+    let number = words::number_of(checkpoint::common_mark(table, stores.g));
     let word = words::mark_word(1, number);
-    checkpoint::marks_to(table, left, g, word)
+    checkpoint::marks_to(stores, word);
 }
 
 // A checkpoint begins, in at most `limit` stores.
 pub fn open(table: &mut [u64], limit: u64) -> Answer
     ensures { Meets (open_of table.old) limit table.old table.new result }
 {
-    let checked = entries::check::check_table(table);
-    match checked {
-        Checked::Failed(x) => Answer::Refused(x),
-        Checked::Passed(g) => {
-            let admission = admit_start(table, g);
-            match admission {
-                Admission::Turned(x) => Answer::Refused(x),
-                Admission::Admitted => {
-                    let left = open_stores(table, limit, g);
-                    let stores = limit - left;
-                    Answer::Done { value: 0, stores }
-                }
-            }
+    match ready(table) {
+        Err(refusal) => Answer::Refused(refusal),
+        Ok(g) => {
+            let mut stores = Stores {
+                table,
+                g,
+                left: limit,
+            };
+            open_stores(&mut stores);
+            let stores = limit - stores.left;
+            Answer::Done { value: 0, stores }
         }
     }
 }

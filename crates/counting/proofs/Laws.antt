@@ -9,3 +9,4 @@ pub mod Values
 pub mod Exists
 pub mod Ranks
 pub mod Crowded
+pub mod Chains

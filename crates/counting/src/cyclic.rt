@@ -1,14 +1,6 @@
-// The nodes in cyclic order, and the search for the first after a node, itself excluded, that passes a test. The test
-// is the searching function's own:
-//
-//     let mut cursor = cyclic::after(nodes, node);
-//     while 0 < cursor.untried {
-//         if cursor.node passes, it is the answer
-//         cursor = cyclic::step(nodes, cursor);
-//     }
-//     none passes
-ghost use Rattle.std.specs.Prelude.{◌≡◌};
-ghost use Rattle.counting.specs.Cyclic.{next_node, cursor_after, cursor_step};
+// The nodes in cyclic order, and the search for the first after a node, itself excluded, that passes a test.
+ghost use Rattle.std.specs.Prelude.{◌≡◌, ◌<◌, ℕ, Bool};
+ghost use Rattle.counting.specs.Cyclic.{next_node, cursor_after, cursor_step, first_after};
 
 // Where a search has come to: a node, and how many nodes are still to be tried, this one among them.
 #[derive(Clone, Copy)]
@@ -54,4 +46,19 @@ pub fn step(nodes: u8, cursor: Cursor) -> Cursor
         node,
         untried: untried - 1,
     }
+}
+
+// The first node after `node`, cyclically, that passes the test; `node` itself if none does, or if it is no node.
+pub fn first_after<F: Fn(u8) -> bool>(nodes: u8, node: u8, passes: F) -> u8
+    requires { (k : ℕ) → k < nodes → F.pre passes k }
+    ensures { (test : ℕ → Bool) → ((k : ℕ) (r : Bool) → k < nodes → F.post passes k r → r ≡ test k) → result ≡ first_after test nodes node }
+{
+    let mut cursor = after(nodes, node);
+    while 0 < cursor.untried {
+        if passes(cursor.node) {
+            return cursor.node;
+        }
+        cursor = step(nodes, cursor);
+    }
+    node
 }

@@ -7,7 +7,6 @@ pub mod SurveyFields
 pub mod SurveyStep
 pub mod SurveyKinds
 pub mod SurveySound
-pub mod SurveyWeight
 pub mod SurveyGather
 pub mod SurveyNoting
 pub mod MarksLoop

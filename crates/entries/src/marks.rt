@@ -1,41 +1,33 @@
-// The marks: the first live one, and whether all live ones are that word.
+// The marks: the word that all live ones are.
 ghost use Rattle.std.specs.Prelude.{◌≡◌};
 ghost use Rattle.table.specs.View.{view};
-ghost use Rattle.entries.specs.code.MarksLoop.{Marked, marks_test};
+ghost use Rattle.entries.specs.code.MarksLoop.{mark_met, marks_test};
 
 use table::geometry::Geometry;
 use table::{stores, words};
 
-// The mark of the first live node, or 0, and whether all live nodes have it.
-#[derive(Clone, Copy)]
-pub struct Marks {
-    pub first: u64,
-    pub equal: bool,
-}
-
-// All marks.
-pub fn marks_met(table: &[u64], g: Geometry) -> Marks
-    ensures { Marked (view g table.now) g.nodes result }
+// The mark of all live nodes, 0 where none is live; None if two of them differ.
+pub fn marks_met(table: &[u64], g: Geometry) -> Option<u64>
+    ensures { result ≡ mark_met (view g table.now) g.nodes }
 {
-    let nodes = g.nodes;
-    let mut first: u64 = 0;
-    let mut equal = true;
-    let mut node: u8 = 0;
-    while node < nodes {
+    let mut first = 0;
+    for node in 0..g.nodes {
         let mark = stores::mark_at(table, g, node);
-        first = if first == 0 { mark } else { first };
-        equal = equal & ((mark == 0) | (mark == first));
-        node += 1;
+        if first == 0 {
+            first = mark;
+        }
+        if (mark != 0) & (mark != first) {
+            return None;
+        }
     }
-    Marks { first, equal }
+    Some(first)
 }
 
-// The live marks are one word of good form, its phase 0 or 1, its number under 2^32 - 1 in phase 1.
-pub fn agree(m: Marks) -> bool
-    ensures { result ≡ marks_test m.first m.equal }
+// Whether a common mark is of good form, its phase 0 or 1, its number under 2^32 - 1 in phase 1.
+pub fn agree(mark: u64) -> bool
+    ensures { result ≡ marks_test mark }
 {
-    let form = words::mark_form(m.first);
-    let phase = words::phase_of(m.first);
-    let number = words::number_of(m.first);
-    m.equal & (form & ((phase < 2) & (!(phase == 1) | (number < 0xffff_ffff))))
+    let phase = words::phase_of(mark);
+    let number = words::number_of(mark);
+    words::mark_form(mark) & ((phase < 2) & (!(phase == 1) | (number < 0xffff_ffff)))
 }

@@ -8,7 +8,7 @@ ghost use Rattle.entries.specs.code.Survey.{weight_of, created_tally, kind_by};
 ghost use Rattle.entries.specs.code.SurveyRow.{Gathered, EntryNoted, RowReady, RowNoted};
 ghost use Rattle.entries.specs.code.SurveyGather.{Gathering, GatheredMore};
 ghost use Rattle.entries.specs.code.SurveySound.{fits_test, RowFrames, Surveyable, Surveying, RowSurveyed, RowsSurveyed};
-ghost use Rattle.entries.specs.code.SurveyDirty.{KindsFound, Found};
+ghost use Rattle.entries.specs.code.SurveyDirty.{kinds_found, found};
 
 use crate::frames;
 use counting::choice;
@@ -23,85 +23,80 @@ struct Turn {
     differ: u64,
 }
 
-// Whether all is sound, and the lowest item with an Owner or a Modified, or the number of items.
-#[derive(Clone, Copy)]
-pub(crate) struct Findings {
-    pub sound: bool,
-    pub dirty: u64,
-}
+// The weight of an entry, by the six top bits of its state word, the current and the kept code: a row a current code.
+const WEIGHTS: [u64; 64] = [
+    0,
+    0x2000_0000_0020,
+    0x2000_0000_0400,
+    0x80_0000_0000_0000,
+    0x2000_0000_0001,
+    0x4000_0000_0021,
+    0x4000_0000_0401,
+    0x80_0000_0000_0000,
+    0x2000_0000_8001,
+    0x4000_0000_8021,
+    0x4000_0000_8401,
+    0x80_0000_0000_0000,
+    0x2000_0010_0001,
+    0x4000_0010_0021,
+    0x4000_0010_0401,
+    0x80_0000_0000_0000,
+    0x2000_0200_0001,
+    0x80_0000_0000_0000,
+    0x80_0000_0000_0000,
+    0x80_0000_0000_0000,
+    0x2000_4000_0001,
+    0x80_0000_0000_0000,
+    0x80_0000_0000_0000,
+    0x80_0000_0000_0000,
+    0x2008_0000_0001,
+    0x4008_0000_0021,
+    0x4008_0000_0401,
+    0x80_0000_0000_0000,
+    0x2100_0000_0001,
+    0x4100_0000_0021,
+    0x4100_0000_0401,
+    0x80_0000_0000_0000,
+    0x80_0000_0000_0000,
+    0x80_0000_0000_0000,
+    0x80_0000_0000_0000,
+    0x80_0000_0000_0000,
+    0x80_0000_0000_0000,
+    0x80_0000_0000_0000,
+    0x80_0000_0000_0000,
+    0x80_0000_0000_0000,
+    0x80_0000_0000_0000,
+    0x80_0000_0000_0000,
+    0x80_0000_0000_0000,
+    0x80_0000_0000_0000,
+    0x80_0000_0000_0000,
+    0x80_0000_0000_0000,
+    0x80_0000_0000_0000,
+    0x80_0000_0000_0000,
+    0x80_0000_0000_0000,
+    0x80_0000_0000_0000,
+    0x80_0000_0000_0000,
+    0x80_0000_0000_0000,
+    0x80_0000_0000_0000,
+    0x80_0000_0000_0000,
+    0x80_0000_0000_0000,
+    0x80_0000_0000_0000,
+    0x80_0000_0000_0000,
+    0x80_0000_0000_0000,
+    0x80_0000_0000_0000,
+    0x80_0000_0000_0000,
+    0x80_0000_0000_0000,
+    0x80_0000_0000_0000,
+    0x80_0000_0000_0000,
+    0x80_0000_0000_0000,
+];
 
-// The weight of an entry, by the six top bits of its state word.
+// The weight of an entry.
 fn weight(top: u8) -> u64
     requires { top < 64 }
     ensures { result ≡ weight_of top }
 {
-    match top {
-        0 => 0,
-        1 => 0x2000_0000_0020,
-        2 => 0x2000_0000_0400,
-        3 => 0x80_0000_0000_0000,
-        4 => 0x2000_0000_0001,
-        5 => 0x4000_0000_0021,
-        6 => 0x4000_0000_0401,
-        7 => 0x80_0000_0000_0000,
-        8 => 0x2000_0000_8001,
-        9 => 0x4000_0000_8021,
-        10 => 0x4000_0000_8401,
-        11 => 0x80_0000_0000_0000,
-        12 => 0x2000_0010_0001,
-        13 => 0x4000_0010_0021,
-        14 => 0x4000_0010_0401,
-        15 => 0x80_0000_0000_0000,
-        16 => 0x2000_0200_0001,
-        17 => 0x80_0000_0000_0000,
-        18 => 0x80_0000_0000_0000,
-        19 => 0x80_0000_0000_0000,
-        20 => 0x2000_4000_0001,
-        21 => 0x80_0000_0000_0000,
-        22 => 0x80_0000_0000_0000,
-        23 => 0x80_0000_0000_0000,
-        24 => 0x2008_0000_0001,
-        25 => 0x4008_0000_0021,
-        26 => 0x4008_0000_0401,
-        27 => 0x80_0000_0000_0000,
-        28 => 0x2100_0000_0001,
-        29 => 0x4100_0000_0021,
-        30 => 0x4100_0000_0401,
-        31 => 0x80_0000_0000_0000,
-        32 => 0x80_0000_0000_0000,
-        33 => 0x80_0000_0000_0000,
-        34 => 0x80_0000_0000_0000,
-        35 => 0x80_0000_0000_0000,
-        36 => 0x80_0000_0000_0000,
-        37 => 0x80_0000_0000_0000,
-        38 => 0x80_0000_0000_0000,
-        39 => 0x80_0000_0000_0000,
-        40 => 0x80_0000_0000_0000,
-        41 => 0x80_0000_0000_0000,
-        42 => 0x80_0000_0000_0000,
-        43 => 0x80_0000_0000_0000,
-        44 => 0x80_0000_0000_0000,
-        45 => 0x80_0000_0000_0000,
-        46 => 0x80_0000_0000_0000,
-        47 => 0x80_0000_0000_0000,
-        48 => 0x80_0000_0000_0000,
-        49 => 0x80_0000_0000_0000,
-        50 => 0x80_0000_0000_0000,
-        51 => 0x80_0000_0000_0000,
-        52 => 0x80_0000_0000_0000,
-        53 => 0x80_0000_0000_0000,
-        54 => 0x80_0000_0000_0000,
-        55 => 0x80_0000_0000_0000,
-        56 => 0x80_0000_0000_0000,
-        57 => 0x80_0000_0000_0000,
-        58 => 0x80_0000_0000_0000,
-        59 => 0x80_0000_0000_0000,
-        60 => 0x80_0000_0000_0000,
-        61 => 0x80_0000_0000_0000,
-        62 => 0x80_0000_0000_0000,
-        63 => 0x80_0000_0000_0000,
-        _ => 0,
-    }
+    WEIGHTS[top as usize]
 }
 
 // Gathers one entry more: its offset stands in the list, and counts if its state word is not 0.
@@ -130,29 +125,29 @@ fn gather_fours(table: &[u64], start: usize, items: u16, list: &mut [u16]) -> us
     requires { (start + 3 * items ≤ length table.now) × ((items ≤ length list.old) × (items ≤ 256)) }
     ensures { Gathering (row_state table.now start) (4 * (items / 4)) list.old list.new result }
 {
-    let most = 12 * ((items / 4) as usize);
     let mut count: usize = 0;
-    let mut offset: usize = 0;
-    while offset < most {
-        count = gather_four(table, start, offset, list, count);
-        offset += 12;
+    for four in 0..items as usize / 4 {
+        count = gather_four(table, start, 12 * four, list, count);
     }
     count
 }
 
-// Gathers the offsets of the entries of a row whose state word is not 0; how many there are.
-fn occupied(table: &[u64], start: usize, items: u16, list: &mut [u16]) -> usize
+// Gathers the offsets of the entries of a row whose state word is not 0: the part of the list that they fill.
+fn occupied<'a>(table: &[u64], start: usize, items: u16, list: &'a mut [u16]) -> &'a [u16]
     requires { (start + 3 * items ≤ length table.now) × ((items ≤ length list.old) × (items ≤ 256)) }
-    ensures { Gathered (row_state table.now start) items list.new result }
+    ensures { Gathered (row_state table.now start) items result.now (length result.now) }
 {
-    let width = Geometry::ENTRY_WORDS * (items as usize);
     let mut count = gather_fours(table, start, items, list);
-    let mut offset = 12 * ((items / 4) as usize);
-    while offset < width {
-        count = gather_one(table, start, offset, list, count);
-        offset += Geometry::ENTRY_WORDS;
+    for item in items / 4 * 4..items {
+        count = gather_one(
+            table,
+            start,
+            Geometry::ENTRY_WORDS * (item as usize),
+            list,
+            count,
+        );
     }
-    count
+    &list[..count]
 }
 
 // Notes one entry.
@@ -186,16 +181,13 @@ fn note_row(table: &[u64], g: Geometry, node: u8, list: &mut [u16], notes: &mut 
     ensures { RowNoted g (view g table.now) node notes.new result }
 {
     let start = g.entry_at(node, 0);
-    let count = occupied(table, start, g.items, list);
     let mut frames: u64 = 0;
     let mut differ: u64 = 0;
-    let mut k: usize = 0;
-    while k < count {
-        let j = list[k] as usize;
+    for &offset in occupied(table, start, g.items, list) {
+        let j = offset as usize;
         let turn = note_entry(table, start + j, j, notes);
         frames += turn.frames;
-        differ = differ | turn.differ;
-        k += 1;
+        differ |= turn.differ;
     }
     Turn { frames, differ }
 }
@@ -205,13 +197,10 @@ fn node_fits(table: &[u64], g: Geometry, node: u8, frames: u64) -> bool
     requires { RowFrames g (view g table.now) node frames }
     ensures { result ≡ fits_test g (view g table.now) node }
 {
-    let sets = frames::sets(g);
-    if sets == 1 {
-        let room = frames::set_frames(g);
-        return frames <= room as u64;
+    if frames::sets(g) == 1 {
+        return frames <= frames::set_frames(g) as u64;
     }
-    let fit = frames::frames_fit(table, g, node);
-    (frames < 1024) & fit
+    (frames < 1024) & frames::frames_fit(table, g, node)
 }
 
 // Whether a node is dead, or its row is as it should be beside those of the nodes below, which are noted.
@@ -224,8 +213,7 @@ fn row_sound(table: &[u64], g: Geometry, node: u8, list: &mut [u16], notes: &mut
         return true;
     }
     let turn = note_row(table, g, node, list, notes);
-    let fits = node_fits(table, g, node, turn.frames);
-    (turn.differ == 0) & fits
+    (turn.differ == 0) & node_fits(table, g, node, turn.frames)
 }
 
 // Whether each row is as it should be.
@@ -233,20 +221,16 @@ fn rows_sound(table: &[u64], g: Geometry, list: &mut [u16], notes: &mut [u64]) -
     requires { Surveying g table.now 0 list.old notes.old }
     ensures { RowsSurveyed g (view g table.now) g.nodes notes.new result }
 {
-    let nodes = g.nodes;
     let mut ok = true;
-    let mut node: u8 = 0;
-    while node < nodes {
-        let good = row_sound(table, g, node, list, notes);
-        ok = ok & good;
-        node += 1;
+    for node in 0..g.nodes {
+        ok &= row_sound(table, g, node, list, notes);
     }
     ok
 }
 
 // The tally of a created item, without its copies, in phase 1; in the others, where no item is created, that of an
 // owned one.
-fn created_tally(phase: u64) -> u64
+fn created_tally(phase: u8) -> u64
     ensures { result ≡ created_tally phase }
 {
     if phase == 1 {
@@ -264,89 +248,65 @@ fn kind_sound(tally: u64, created: u64) -> bool
     (apart == 0x210_0000) | (((t == 0x10_0421) | (apart == 0x421)) | (apart == created))
 }
 
-// Whether each item is clean, dirty, or, in phase 1 only, created, by the tallies, from the last item down; and the
-// lowest with an Owner or a Modified.
-fn kinds_sound(notes: &[u64], items: u16, phase: u64) -> Findings
+// Where each item is clean, dirty, or, in phase 1 only, created, by the tallies, from the last item down: the lowest
+// with an Owner or a Modified, or the number of items.
+fn kinds_sound(notes: &[u64], items: u16, phase: u8) -> Option<u16>
     requires { 3 * items ≤ length notes.now }
-    ensures { KindsFound notes.now items phase result }
+    ensures { result ≡ kinds_found notes.now items phase }
 {
     let created = created_tally(phase);
     let mut sound = true;
-    let mut dirty = items as u64;
-    let mut at = 3 * (items as usize);
-    let mut item = items;
-    while 0 < item {
-        item -= 1;
-        at -= 3;
-        let tally = notes[at];
-        let good = kind_sound(tally, created);
-        sound = good & sound;
-        dirty = choice::either(tally / 0x8000 % 1024 == 0, dirty, item as u64);
+    let mut dirty = items;
+    for item in (0..items).rev() {
+        let tally = notes[3 * item as usize];
+        sound &= kind_sound(tally, created);
+        if tally / 0x8000 % 1024 != 0 {
+            dirty = item;
+        }
     }
-    Findings { sound, dirty }
+    sound.then_some(dirty)
 }
 
 // The survey with a list and notes that are long enough, the notes zero.
 fn survey_in(
     table: &[u64],
     g: Geometry,
-    phase: u64,
+    phase: u8,
     list: &mut [u16],
     notes: &mut [u64],
-) -> Findings
+) -> Option<u16>
     requires { Surveying g table.now 0 list.old notes.old }
-    ensures { Found g (view g table.now) phase result }
+    ensures { result ≡ found g (view g table.now) phase }
 {
-    let rows = rows_sound(table, g, list, notes);
-    let kinds = kinds_sound(notes, g.items, phase);
-    Findings {
-        sound: rows & kinds.sound,
-        dirty: kinds.dirty,
+    if !rows_sound(table, g, list, notes) {
+        return None;
     }
+    kinds_sound(notes, g.items, phase)
 }
 
-// Of at most 16 items.
-fn survey_16(table: &[u64], g: Geometry, phase: u64) -> Findings
-    requires { (g.items ≤ 16) × Surveyable g table.now }
-    ensures { Found g (view g table.now) phase result }
+// The survey of at most ITEMS items, with three notes an item.
+fn survey_of<const ITEMS: usize, const NOTES: usize>(
+    table: &[u64],
+    g: Geometry,
+    phase: u8,
+) -> Option<u16>
+    requires { ((g.items ≤ ITEMS) × (ITEMS ≤ 256)) × (((3 * g.items ≤ NOTES) × (NOTES ≤ 768)) × Surveyable g table.now) }
+    ensures { result ≡ found g (view g table.now) phase }
 {
-    let mut list: [u16; 16] = [0; 16];
-    let mut notes: [u64; 48] = [0; 48];
+    let mut list = [0u16; ITEMS];
+    let mut notes = [0u64; NOTES];
     survey_in(table, g, phase, &mut list, &mut notes)
 }
 
-// Of at most 64 items.
-fn survey_64(table: &[u64], g: Geometry, phase: u64) -> Findings
-    requires { (g.items ≤ 64) × Surveyable g table.now }
-    ensures { Found g (view g table.now) phase result }
-{
-    let mut list: [u16; 64] = [0; 64];
-    let mut notes: [u64; 192] = [0; 192];
-    survey_in(table, g, phase, &mut list, &mut notes)
-}
-
-// Of at most 256 items.
-fn survey_256(table: &[u64], g: Geometry, phase: u64) -> Findings
-    requires { Surveyable g table.now }
-    ensures { Found g (view g table.now) phase result }
-{
-    let mut list: [u16; 256] = [0; 256];
-    let mut notes: [u64; 768] = [0; 768];
-    survey_in(table, g, phase, &mut list, &mut notes)
-}
-
-// Whether nodes and items are sound, and if they are, the lowest dirty item that is not created. The list and the
+// Where nodes and items are sound, the lowest dirty item that is not created, or the number of items. The list and the
 // notes are as long as the items ask for.
-pub(crate) fn survey(table: &[u64], g: Geometry, phase: u64) -> Findings
+pub(crate) fn survey(table: &[u64], g: Geometry, phase: u8) -> Option<u16>
     requires { Surveyable g table.now }
-    ensures { Found g (view g table.now) phase result }
+    ensures { result ≡ found g (view g table.now) phase }
 {
-    let items = g.items;
-    if items <= 16 {
-        return survey_16(table, g, phase);
+    match g.items {
+        0..=16 => survey_of::<16, 48>(table, g, phase),
+        17..=64 => survey_of::<64, 192>(table, g, phase),
+        _ => survey_of::<256, 768>(table, g, phase),
     }
-    if items <= 64 {
-        return survey_64(table, g, phase);
-    }
-    survey_256(table, g, phase)
 }

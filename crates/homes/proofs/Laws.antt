@@ -1,11 +1,13 @@
 -- The laws of the definitions of `specs/`, for the proofs of this crate and of the crates over it.
 pub mod Admission
 pub mod Plans
+pub mod Ready
 pub mod Places
 pub mod HomeCode
 pub mod HomeLaws
 pub mod Holders
 pub mod EvictCode
+pub mod EvictReady
 pub mod Kept
 pub mod Safe
 pub mod Placed

@@ -1,16 +1,14 @@
 -- Evict, current or kept place: "a Shared copy is dropped (state). Any other goes home, then the source's state."
-use Rattle.std.specs.Prelude.{ℕ, Bool, cond, List, [], ◌∷◌, ◌++◌, eqb}
+use Rattle.std.specs.Prelude.{ℕ, Bool, cond, List, [], ◌∷◌, ◌++◌, eqb, Err, Ok}
 use Rattle.table.specs.declared.geometry.Geometry.{Geometry}
 use Rattle.table.specs.declared.answers.Refusal.TheVariants.{PlaceInvalid, NoHome}
 use Rattle.table.specs.Words.{current_of, kept_of, invalid}
 use Rattle.table.specs.Stores.{Store, Change, entry_store, state_to}
 use Rattle.table.specs.View.{Entry, View}
 use Rattle.table.specs.Answers.{Plan, carry}
-use Rattle.homes.specs.declared.admission.Admission.{Admission}
-use Rattle.homes.specs.declared.admission.Admission.TheVariants.{Admitted, Turned}
 use Rattle.homes.specs.declared.places.Place.{Place}
 use Rattle.homes.specs.declared.places.Place.TheVariants.{Current, Kept}
-use Rattle.homes.specs.Admission.{admission_of, plan_by}
+use Rattle.homes.specs.Admission.{Admission, admission_of, plan_by}
 use Rattle.homes.specs.Places.{code_in, shared_in, value_in}
 use Rattle.homes.specs.Home.{home_of, no_home, home_stores}
 
@@ -43,12 +41,12 @@ evict_stores g v place n b =
 
 -- "10 place Invalid; 11 no home": a Shared copy needs none
 unfoldable pub place_admission : Geometry → View → Place → ℕ → ℕ → Admission → Admission
-place_admission g v place n b (Turned x) = Turned x
-place_admission g v place n b Admitted =
-    cond (eqb (code_in place (v.entry n b)) invalid) (Turned PlaceInvalid)
-    (cond (dropped place (v.entry n b)) Admitted
-    (cond (no_home g v place n b) (Turned NoHome)
-    Admitted))
+place_admission g v place n b (Err x) = Err x
+place_admission g v place n b (Ok _) =
+    cond (eqb (code_in place (v.entry n b)) invalid) (Err PlaceInvalid)
+    (cond (dropped place (v.entry n b)) (Ok tt)
+    (cond (no_home g v place n b) (Err NoHome)
+    (Ok tt)))
 
 abbrev pub evict_admission : Geometry → View → Place → ℕ → ℕ → Admission
 evict_admission g v place n b = place_admission g v place n b (admission_of g v n b)

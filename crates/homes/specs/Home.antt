@@ -1,5 +1,5 @@
 -- "Home of a copy leaving node n: the first live node after n, cyclically, n excluded, that fits."
-use Rattle.std.specs.Prelude.{ℕ, Bool, cond, ◌&&◌, ◌||◌, List, [], ◌∷◌, ◌++◌, map, eqb, ltb}
+use Rattle.std.specs.Prelude.{ℕ, Bool, cond, ◌&&◌, ◌||◌, List, [], ◌∷◌, ◌++◌, map, eqb, ltb, Option, Some, None}
 use Rattle.table.specs.declared.geometry.Geometry.{Geometry}
 use Rattle.table.specs.Words.{kept_of, invalid, shared}
 use Rattle.table.specs.Stores.{Store, Change, entry_store, state_to, value_to, kept_to}
@@ -9,6 +9,7 @@ use Rattle.counting.specs.Cyclic.{first_after}
 use Rattle.entries.specs.Frames.{frame_free}
 use Rattle.homes.specs.declared.places.Place.{Place}
 use Rattle.homes.specs.declared.places.Place.TheVariants.{Current, Kept}
+use Rattle.homes.specs.declared.home.Dropped.{Dropped}
 use Rattle.homes.specs.declared.home.Arrival.{Arrival}
 use Rattle.homes.specs.Places.{shared_in}
 
@@ -58,12 +59,14 @@ current_left place dropped b = cond (eqb dropped b) invalid place
 abbrev pub taken_over : Place → Entry → Bool
 taken_over place e = shared_in place e.state
 
+-- the copy of item d, which home h drops; none at M
+abbrev pub drop_at : Geometry → View → ℕ → ℕ → Option Dropped
+drop_at g v h d = cond (ltb d g.items) (Some (record { item = d; state = (v.entry h d).state })) None
+
 unfoldable pub arrival_of : Geometry → View → Place → ℕ → ℕ → Arrival
 arrival_of g v place h b = record {
   takeover = taken_over place (v.entry h b);
-  drops = ltb (dropped_item g v h b) g.items;
-  dropped = dropped_item g v h b;
-  beside = (v.entry h (dropped_item g v h b)).state;
+  drop = drop_at g v h (dropped_item g v h b);
   current = current_left (current (v.entry h b)) (dropped_item g v h b) b;
   kept = kept (v.entry h b);
 }
@@ -71,8 +74,12 @@ arrival_of g v place h b = record {
 -- ---- the home's stores
 
 -- "drops its Shared copy of the lowest-numbered item (one store, first)"
+abbrev pub drop_by : ℕ → Option Dropped → List Store
+drop_by h (Some d) = entry_store h d.item (state_to invalid (kept_of d.state)) ∷ []
+drop_by h None = []
+
 unfoldable pub drop_stores : ℕ → Arrival → List Store
-drop_stores h a = cond a.drops (entry_store h a.dropped (state_to invalid (kept_of a.beside)) ∷ []) []
+drop_stores h a = drop_by h a.drop
 
 -- "then value, state"
 unfoldable pub arrival_changes : Place → ℕ → ℕ → Arrival → List Change

@@ -6,42 +6,32 @@ ghost use Rattle.homes.specs.Admission.{admission_of, frame_full};
 use table::answers::Refusal;
 use table::geometry::Geometry;
 
-#[derive(Clone, Copy)]
-pub enum Admission {
-    Admitted,
-    Turned(Refusal),
-}
-
 // 4 no such node; 5 no such item; 6 node dead; 7 checkpoint open.
-pub fn admit(table: &[u64], g: Geometry, node: u64, item: u64) -> Admission
+pub fn admit(table: &[u64], g: Geometry, node: u64, item: u64) -> Result<(), Refusal>
     ensures { result ≡ admission_of g (view g table.now) node item }
 {
     let nodes = g.nodes as u64;
     let items = g.items as u64;
     if nodes <= node {
-        return Admission::Turned(Refusal::NoNode);
+        return Err(Refusal::NoNode);
     }
     if items <= item {
-        return Admission::Turned(Refusal::NoItem);
+        return Err(Refusal::NoItem);
     }
     let mark = table::stores::mark_at(table, g, node as u8);
     if mark == 0 {
-        return Admission::Turned(Refusal::DeadNode);
+        return Err(Refusal::DeadNode);
     }
     let phase = table::words::phase_of(mark);
     if phase == 1 {
-        return Admission::Turned(Refusal::CheckpointOpen);
+        return Err(Refusal::CheckpointOpen);
     }
-    Admission::Admitted
+    Ok(())
 }
 
 // Whether a frame is needed and none is free.
 pub fn frame_full(table: &[u64], g: Geometry, node: u8, item: u16, needed: bool) -> bool
     ensures { result ≡ frame_full g (view g table.now) node item needed }
 {
-    if !needed {
-        return false;
-    }
-    let free = entries::frames::frame_free(table, g, node, item);
-    !free
+    needed && !entries::frames::frame_free(table, g, node, item)
 }

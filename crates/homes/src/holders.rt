@@ -14,23 +14,15 @@ fn holds_at(table: &[u64], g: Geometry, item: u16, low: u8, high: u8, node: u8) 
     if mark == 0 {
         return false;
     }
-    let state = table::stores::state_at(table, g, node, item);
-    let current = table::words::current_of(state);
-    (low <= current) & (current <= high)
+    let current = table::words::current_of(table::stores::state_at(table, g, node, item));
+    low <= current && current <= high
 }
 
 // The lowest such node, or the number of nodes if there is none.
 pub fn first_holder(table: &[u64], g: Geometry, item: u16, low: u8, high: u8) -> u8
     ensures { result ≡ first_holder g (view g table.now) item low high }
 {
-    let nodes = g.nodes;
-    let mut node: u8 = 0;
-    while node < nodes {
-        let found = holds_at(table, g, item, low, high, node);
-        if found {
-            return node;
-        }
-        node += 1;
-    }
-    nodes
+    (0..g.nodes)
+        .find(|node| holds_at(table, g, item, low, high, *node))
+        .unwrap_or(g.nodes)
 }

@@ -1,54 +1,54 @@
 // The home of a copy that leaves a node, and what is stored there.
 ghost use Rattle.std.specs.Prelude.{◌≡◌};
-ghost use Rattle.table.specs.Stores.{Stored, StoredIn};
+ghost use Rattle.table.specs.Made.{Made, MadeIn};
 ghost use Rattle.table.specs.View.{view};
-ghost use Rattle.homes.specs.Home.{shared_item, has_room, place_fits, fits, home_of, dropped_item, current_left};
-ghost use Rattle.homes.specs.Home.{arrival_of, drop_stores, arrival_changes, home_stores_by};
+ghost use Rattle.homes.specs.Home.{shared_at, shared_item, has_room, place_fits, fits, home_of};
+ghost use Rattle.homes.specs.Home.{dropped_item, drop_at, current_left, arrival_of, drop_stores, arrival_changes, home_stores_by};
 
 use crate::places::Place;
 use counting::cyclic;
 use table::geometry::Geometry;
+use table::stores::Stores;
 use table::words::{INVALID, SHARED};
 
-// What a home makes of a copy that comes: whether it takes it over; whether it drops a Shared copy first, of which
-// item, and the state word that it is dropped from; its own places of the copy's item from then on.
+// A Shared copy that a home drops: of which item, and the state word that it is dropped from.
+#[derive(Clone, Copy)]
+pub struct Dropped {
+    pub item: u16,
+    pub state: u64,
+}
+
+// What a home makes of a copy that comes: whether it takes it over; the Shared copy that it drops first, if it does;
+// its own places of the copy's item from then on.
 #[derive(Clone, Copy)]
 pub struct Arrival {
     pub takeover: bool,
-    pub drops: bool,
-    pub dropped: u16,
-    pub beside: u64,
+    pub drop: Option<Dropped>,
     pub current: u8,
     pub kept: u8,
+}
+
+// Whether a node has a Shared copy of an item.
+fn shared_at(table: &[u64], g: Geometry, h: u8, item: u16) -> bool
+    ensures { result ≡ shared_at (view g table.now) h item }
+{
+    table::words::current_of(table::stores::state_at(table, g, h, item)) == SHARED
 }
 
 // The lowest-numbered item of which a node has a Shared copy, or the number of items.
 fn shared_item(table: &[u64], g: Geometry, h: u8) -> u16
     ensures { result ≡ shared_item g (view g table.now) h }
 {
-    let items = g.items;
-    let mut item: u16 = 0;
-    while item < items {
-        let current = table::words::current_of(table::stores::state_at(table, g, h, item));
-        if current == SHARED {
-            return item;
-        }
-        item += 1;
-    }
-    items
+    (0..g.items)
+        .find(|item| shared_at(table, g, h, *item))
+        .unwrap_or(g.items)
 }
 
 // Whether a node has a frame free for an item, or a Shared copy to drop.
 fn has_room(table: &[u64], g: Geometry, h: u8, item: u16) -> bool
     ensures { result ≡ has_room g (view g table.now) h item }
 {
-    let framed = entries::frames::frame_free(table, g, h, item);
-    if framed {
-        return true;
-    }
-    let shared = shared_item(table, g, h);
-    let items = g.items;
-    shared < items
+    entries::frames::frame_free(table, g, h, item) || shared_item(table, g, h) < g.items
 }
 
 // Whether a node's entry can take a copy in this place.
@@ -57,14 +57,8 @@ fn place_fits(table: &[u64], g: Geometry, place: Place, h: u8, item: u16) -> boo
 {
     let state = table::stores::state_at(table, g, h, item);
     let over = crate::places::shared_in(place, state);
-    if over {
-        return true;
-    }
     let code = crate::places::code_of(place, state);
-    if code == INVALID {
-        return has_room(table, g, h, item);
-    }
-    false
+    over || (code == INVALID && has_room(table, g, h, item))
 }
 
 // Whether a node is live and can take the copy.
@@ -72,10 +66,7 @@ fn can_take(table: &[u64], g: Geometry, place: Place, h: u8, item: u16) -> bool
     ensures { result ≡ fits g (view g table.now) place item h }
 {
     let mark = table::stores::mark_at(table, g, h);
-    if mark == 0 {
-        return false;
-    }
-    place_fits(table, g, place, h, item)
+    mark != 0 && place_fits(table, g, place, h, item)
 }
 
 // The first live node after `node`, cyclically, that can take the copy; `node` itself if there is none, or if it is no
@@ -83,17 +74,7 @@ fn can_take(table: &[u64], g: Geometry, place: Place, h: u8, item: u16) -> bool
 pub fn home_of(table: &[u64], g: Geometry, place: Place, node: u8, item: u16) -> u8
     ensures { result ≡ home_of g (view g table.now) place node item }
 {
-    let nodes = g.nodes;
-    let mut cursor = cyclic::after(nodes, node);
-    while 0 < cursor.untried {
-        let h = cursor.node;
-        let found = can_take(table, g, place, h, item);
-        if found {
-            return h;
-        }
-        cursor = cyclic::step(nodes, cursor);
-    }
-    node
+    cyclic::first_after(g.nodes, node, |h| can_take(table, g, place, h, item))
 }
 
 // The item whose Shared copy a home drops, or the number of items if it has a frame.
@@ -102,19 +83,28 @@ fn dropped_item(table: &[u64], g: Geometry, h: u8, item: u16) -> u16
 {
     let framed = entries::frames::frame_free(table, g, h, item);
     if framed {
-        return g.items;
+        g.items
+    } else {
+        shared_item(table, g, h)
     }
-    shared_item(table, g, h)
 }
 
 // The home's current place of the item once that copy is dropped.
 fn current_left(current: u8, dropped: u16, item: u16) -> u8
     ensures { result ≡ current_left current dropped item }
 {
-    if dropped == item {
-        return INVALID;
+    if dropped == item { INVALID } else { current }
+}
+
+// The copy that a home drops, by the number of its item: none at the number of items.
+fn drop_at(table: &[u64], g: Geometry, h: u8, item: u16) -> Option<Dropped>
+    ensures { result ≡ drop_at g (view g table.now) h item }
+{
+    if item < g.items {
+        let state = table::stores::state_at(table, g, h, item);
+        return Some(Dropped { item, state });
     }
-    current
+    None
 }
 
 // What a home makes of a copy that comes.
@@ -124,77 +114,59 @@ pub fn arrival_at(table: &[u64], g: Geometry, place: Place, h: u8, item: u16) ->
     let state = table::stores::state_at(table, g, h, item);
     let takeover = crate::places::shared_in(place, state);
     let dropped = dropped_item(table, g, h, item);
-    let items = g.items;
-    let drops = dropped < items;
-    let beside = table::stores::state_at(table, g, h, dropped);
+    let drop = drop_at(table, g, h, dropped);
     let current = current_left(table::words::current_of(state), dropped, item);
     let kept = table::words::kept_of(state);
     Arrival {
         takeover,
-        drops,
-        dropped,
-        beside,
+        drop,
         current,
         kept,
     }
 }
 
 // The Shared copy that a home drops, if it drops one.
-fn drop_copy(table: &mut [u64], left: u64, g: Geometry, h: u8, a: Arrival) -> u64
-    ensures { Stored g left (drop_stores h a) table.old table.new result }
+fn drop_copy(stores: &mut Stores, h: u8, a: Arrival)
+    ensures { Made stores.old (drop_stores h a) stores.new }
 {
-    let drops = a.drops;
-    if drops {
-        let beside = table::words::kept_of(a.beside);
-        return table::stores::store_state(table, left, g, h, a.dropped, INVALID, beside);
+    if let Some(copy) = a.drop {
+        let kept = table::words::kept_of(copy.state);
+        stores.store_state(h, copy.item, INVALID, kept);
     }
-    left
 }
 
 // A copy comes to a place: value, then state.
-fn arrive(
-    table: &mut [u64],
-    left: u64,
-    g: Geometry,
-    place: Place,
-    h: u8,
-    item: u16,
-    code: u8,
-    value: u64,
-    a: Arrival,
-) -> u64
-    ensures { StoredIn g left h item (arrival_changes place code value a) table.old table.new result }
+fn arrive(stores: &mut Stores, place: Place, h: u8, item: u16, code: u8, value: u64, a: Arrival)
+    ensures { MadeIn stores.old h item (arrival_changes place code value a) stores.new }
 {
     match place {
         Place::Current => {
-            let left = table::stores::store_value(table, left, g, h, item, value);
-            table::stores::store_state(table, left, g, h, item, code, a.kept)
+            stores.store_value(h, item, value);
+            stores.store_state(h, item, code, a.kept);
         }
         Place::Kept => {
-            let left = table::stores::store_kept(table, left, g, h, item, value);
-            table::stores::store_state(table, left, g, h, item, a.current, code)
+            stores.store_kept(h, item, value);
+            stores.store_state(h, item, a.current, code);
         }
     }
 }
 
 // All stores at the home: the state word of a takeover; else a drop if there is one, value, state.
 pub fn home_stores(
-    table: &mut [u64],
-    left: u64,
-    g: Geometry,
+    stores: &mut Stores,
     place: Place,
     h: u8,
     item: u16,
     code: u8,
     value: u64,
     a: Arrival,
-) -> u64
-    ensures { Stored g left (home_stores_by place h item code value a) table.old table.new result }
+)
+    ensures { Made stores.old (home_stores_by place h item code value a) stores.new }
 {
-    let takeover = a.takeover;
-    if takeover {
-        return table::stores::store_state(table, left, g, h, item, code, a.kept);
+    if a.takeover {
+        stores.store_state(h, item, code, a.kept);
+    } else {
+        drop_copy(stores, h, a);
+        arrive(stores, place, h, item, code, value, a);
     }
-    let left = drop_copy(table, left, g, h, a);
-    arrive(table, left, g, place, h, item, code, value, a)
 }

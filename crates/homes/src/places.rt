@@ -13,13 +13,16 @@ pub enum Place {
 }
 
 // The place that a number names: 0 the current one, any other the kept one.
-pub fn place_by(number: u64) -> Place
-    ensures { result ≡ place_by number }
-{
-    if number == 0 {
-        return Place::Current;
+impl From<u64> for Place {
+    ghost from_gives = { λ number place. place ≡ place_by number };
+
+    fn from(number: u64) -> Place {
+        if number == 0 {
+            Place::Current
+        } else {
+            Place::Kept
+        }
     }
-    Place::Kept
 }
 
 // The state code in a place of a state word.

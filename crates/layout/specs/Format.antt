@@ -1,9 +1,7 @@
 -- Format: "all 1 + N + 3 × N × M words, ascending; other words untouched. All values 0. Item b is Shared-CK1 on node 2b mod N and Shared-CK2
 -- on (2b + 1) mod N. Phase 0, number 0."
-use Rattle.std.specs.Prelude.{ℕ, ◌+◌, ◌*◌, ◌/◌, ◌%◌, Bool, cond, List, [], ◌∷◌, ◌++◌, eqb, leb, ltb, length}
+use Rattle.std.specs.Prelude.{ℕ, ◌+◌, ◌*◌, ◌/◌, ◌%◌, Bool, cond, List, [], ◌∷◌, ◌++◌, eqb, leb, ltb, length, None, Option, Some}
 use Rattle.table.specs.declared.geometry.Geometry.{Geometry}
-use Rattle.table.specs.declared.geometry.Made.{Made}
-use Rattle.table.specs.declared.geometry.Made.TheVariants.{Allowed, NotAllowed}
 use Rattle.table.specs.declared.answers.Refusal.TheVariants.{EmptyOrShort, NoGeometry, TooManyFrames}
 use Rattle.table.specs.Words.{invalid, shared_ck1, shared_ck2, mark_word}
 use Rattle.table.specs.Geometry.{geometry_of, words_of}
@@ -40,9 +38,9 @@ format_stores g = (size_store g ∷ []) ++ (runs first_mark g.nodes ++ first_ent
 abbrev pub unusable_frames : Geometry → Bool
 unusable_frames g = ltb (2 * g.items) g.frames
 
-unfoldable pub format_made : List ℕ → Made → Plan
-format_made t NotAllowed = refuse NoGeometry
-format_made t (Allowed g) =
+unfoldable pub format_made : List ℕ → Option Geometry → Plan
+format_made t None = refuse NoGeometry
+format_made t (Some g) =
     cond (unusable_frames g) (refuse TooManyFrames)
     (cond (leb (words_of g) (length t)) (carry g 0 (format_stores g)) (refuse EmptyOrShort))
 

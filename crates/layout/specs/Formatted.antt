@@ -1,13 +1,12 @@
 -- A FORMATTED TABLE, and that every allowed geometry has them, F above 2 × M too: "Format now refuses F above 2 × M.
 -- Tables already formatted go on working." (K7) So the definition asks for the words, not for what Format accepts.
-use Rattle.std.specs.Prelude.{ℕ, ◌*◌, ◌≤◌, ◌≡◌, true, List, length}
+use Rattle.std.specs.Prelude.{ℕ, ◌*◌, ◌≤◌, ◌≡◌, true, List, length, Ok}
 use Rattle.table.specs.declared.geometry.Geometry.{Geometry}
 use Rattle.table.specs.Geometry.{allowed, words_of}
 use Rattle.table.specs.Stores.{Store, after}
 use Rattle.table.specs.View.{view}
 use Rattle.table.specs.Answers.{carry}
 use Rattle.entries.specs.Frames.{used}
-use Rattle.entries.specs.declared.check.Checked.TheVariants.{Passed}
 use Rattle.entries.specs.Check.{fault_of}
 use Rattle.layout.specs.Format.{format_stores, format_of}
 
@@ -29,7 +28,7 @@ pub record Formatted (t : List ℕ) : Type 0 where
 pub record FormattedWith (g : Geometry) (t : List ℕ) : Type 0 where
   pub formatted : Formatted t
   pub geometry_is : formatted.geometry ≡ g
-  pub passes : fault_of t ≡ Passed g
+  pub passes : fault_of t ≡ Ok g
 
 pub record GoOnWorking : Type 0 where
   -- "Tables already formatted": by this list, for any allowed geometry, whatever the slice held before

@@ -4,44 +4,30 @@ ghost use Rattle.table.specs.Answers.{Told, numbers_at};
 ghost use Rattle.layout.specs.Stretch.{stretch_of, stretch_part, Spanned};
 
 use entries::check;
-use entries::check::Checked;
-use table::answers;
-use table::answers::{Answer, Refusal};
+use std::ops::Range;
+use table::answers::{Answer, Numbers, Refusal};
 use table::geometry::Geometry;
 
-// Where a node's entries lie, or why they are not given.
-#[derive(Clone, Copy)]
-pub enum Span {
-    Entries { start: usize, end: usize },
-    Refused(Refusal),
-}
-
-// Where a node's entries lie in the table.
-pub fn span_of(table: &[u64], node: u64) -> Span
+// Where a node's entries lie in the table, or why they are not given.
+pub fn span_of(table: &[u64], node: u64) -> Result<Range<usize>, Refusal>
     ensures { Spanned table.now node result }
 {
-    let sized = check::sizes(table);
-    match sized {
-        Checked::Failed(x) => Span::Refused(x),
-        Checked::Passed(g) => {
-            if g.nodes as u64 <= node {
-                return Span::Refused(Refusal::NoNode);
-            }
-            let start = g.entry_at(node as u8, 0);
-            let end = start + Geometry::ENTRY_WORDS * (g.items as usize);
-            Span::Entries { start, end }
-        }
+    let g = check::sizes(table)?;
+    if g.nodes as u64 <= node {
+        return Err(Refusal::NoNode);
     }
+    let start = g.entry_at(node as u8, 0);
+    let end = start + Geometry::ENTRY_WORDS * (g.items as usize);
+    Ok(start..end)
 }
 
 // A node's entries: a part of the table, empty on a refusal.
 pub fn stretch(table: &[u64], node: u64) -> &[u64]
     ensures { result.now ≡ stretch_part table.now node (stretch_of table.now node) }
 {
-    let at = span_of(table, node);
-    match at {
-        Span::Refused(x) => &table[0..0],
-        Span::Entries { start, end } => &table[start..end],
+    match span_of(table, node) {
+        Err(_) => &table[..0],
+        Ok(span) => &table[span],
     }
 }
 
@@ -49,10 +35,9 @@ pub fn stretch(table: &[u64], node: u64) -> &[u64]
 pub fn stretch_mut(table: &mut [u64], node: u64) -> &mut [u64]
     ensures { result.now ≡ stretch_part table.old node (stretch_of table.old node) }
 {
-    let at = span_of(table, node);
-    match at {
-        Span::Refused(x) => &mut table[0..0],
-        Span::Entries { start, end } => &mut table[start..end],
+    match span_of(table, node) {
+        Err(_) => &mut table[..0],
+        Ok(span) => &mut table[span],
     }
 }
 
@@ -60,10 +45,9 @@ pub fn stretch_mut(table: &mut [u64], node: u64) -> &mut [u64]
 pub fn stretch_answer(table: &[u64], node: u64) -> Answer
     ensures { Told (stretch_of table.now node) table.now result }
 {
-    let at = span_of(table, node);
-    match at {
-        Span::Refused(x) => Answer::Refused(x),
-        Span::Entries { start, end } => Answer::Done {
+    match span_of(table, node) {
+        Err(refusal) => Answer::Refused(refusal),
+        Ok(_) => Answer::Done {
             value: 0,
             stores: 0,
         },
@@ -74,6 +58,5 @@ pub fn stretch_answer(table: &[u64], node: u64) -> Answer
 pub fn stretch_number(table: &[u64], node: u64) -> u64
     ensures { result ≡ (numbers_at (stretch_of table.now node) 0).answer }
 {
-    let n = answers::numbers_of(stretch_answer(table, node));
-    n.answer
+    Numbers::from(stretch_answer(table, node)).answer
 }

@@ -1,5 +1,5 @@
 -- What a function of the library hands out, of the plan of the call that it was asked for.
-use Rattle.std.specs.Prelude.{ℕ, ◌+◌, ◌*◌, ◌≤◌, ◌≡◌, List, cond, ltb, length}
+use Rattle.std.specs.Prelude.{ℕ, ◌+◌, ◌*◌, ◌≤◌, ◌≡◌, List, cond, ltb, length, None, Option, Some}
 use Rattle.table.specs.declared.answers.Numbers.{Numbers}
 use Rattle.table.specs.Answers.{Plan, malformed_numbers, numbers_at, table_of, refuse, nothing_left, carry}
 use Rattle.recovery.specs.Recover.{scratch_after, recover_of}
@@ -8,8 +8,7 @@ use Rattle.homes.specs.Evict.{evict_of}
 use Rattle.survivors.specs.Survivors.{lost_by}
 use Rattle.table.specs.Geometry.{entry_words, entry_at, geometry_of, words_of}
 use Rattle.layout.specs.Stretch.{stretch_of}
-use Rattle.table.specs.declared.geometry.Made.{Made}
-use Rattle.table.specs.declared.geometry.Made.TheVariants.{Allowed, NotAllowed}
+use Rattle.table.specs.declared.geometry.Geometry.{Geometry}
 
 -- what was asked for: a number that stands for no argument of the call, or a call with this plan
 pub data Asked : Type 0 where
@@ -82,9 +81,9 @@ pub record PartReports (t : List ℕ) (n start words r : ℕ) : Type 0 where
 -- has places, F = 2 × M. Every geometry of these nodes and items has these words (`words_of_any`), and where the number
 -- is 0 there is none (`no_words`).
 
-unfoldable pub made_words : Made → ℕ
-made_words (Allowed g) = words_of g
-made_words NotAllowed = 0
+unfoldable pub made_words : Option Geometry → ℕ
+made_words (Some g) = words_of g
+made_words None = 0
 
 unfoldable pub words_for : ℕ → ℕ → ℕ
 words_for n m = made_words (geometry_of n m (2 * m))

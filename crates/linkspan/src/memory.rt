@@ -4,6 +4,7 @@ ghost use Rattle.calls.specs.Write.{write_of};
 ghost use Rattle.linkspan.specs.Report.{planned, Reports, evict_asked};
 
 use crate::report;
+use homes::places::Place;
 
 // Reads an item at a node: the item's value.
 #[unsafe(no_mangle)]
@@ -54,7 +55,7 @@ pub extern "C" fn linkspan_evict(
     if 1 < place {
         return report::malformed(value, stores);
     }
-    let named = homes::places::place_by(place);
+    let named = Place::from(place);
     let answer = homes::evict::evict(table, node, item, named, limit);
     report::report(answer, value, stores)
 }

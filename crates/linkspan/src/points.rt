@@ -5,7 +5,7 @@ ghost use Rattle.checkpoints.specs.Commit.{commit_of, commit_length_of, abandon_
 ghost use Rattle.linkspan.specs.Report.{planned, Reports, Tells};
 
 use crate::report;
-use table::answers;
+use table::answers::Numbers;
 
 // Opens a checkpoint.
 #[unsafe(no_mangle)]
@@ -55,7 +55,7 @@ pub extern "C" fn linkspan_commit_length(table: &[u64], length: &mut u64) -> u64
     ensures { Tells (commit_length_of table.now) length.new result }
 {
     let answer = checkpoints::length::commit_length(table);
-    let numbers = answers::numbers_of(answer);
+    let numbers = Numbers::from(answer);
     *length = numbers.value;
     numbers.answer
 }

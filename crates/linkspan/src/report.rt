@@ -3,13 +3,13 @@ ghost use Rattle.table.specs.Answers.{numbers_of, malformed_numbers};
 ghost use Rattle.linkspan.specs.Report.{HandedOut};
 
 use table::answers;
-use table::answers::Answer;
+use table::answers::{Answer, Numbers};
 
 // The answer of a call.
 pub(crate) fn report(answer: Answer, value: &mut u64, stores: &mut u64) -> u64
     ensures { HandedOut (numbers_of answer) value.new stores.new result }
 {
-    let numbers = answers::numbers_of(answer);
+    let numbers = Numbers::from(answer);
     *value = numbers.value;
     *stores = numbers.stores;
     numbers.answer

@@ -6,10 +6,8 @@ ghost use Rattle.layout.specs.Stretch.{check_of};
 ghost use Rattle.linkspan.specs.Report.{planned, Reports, PartReports, words_for};
 
 use crate::report;
-use layout::stretch::Span;
-use table::answers;
-use table::answers::Answer;
-use table::geometry::{Geometry, Made};
+use table::answers::Numbers;
+use table::geometry::Geometry;
 
 // The words that a table of these nodes and items needs, or 0 where no geometry has them.
 #[unsafe(no_mangle)]
@@ -19,10 +17,9 @@ pub extern "C" fn linkspan_words(nodes: u64, items: u64) -> u64
     if Geometry::ITEMS_MAX < items {
         return 0;
     }
-    let made = Geometry::new(nodes, items, 2 * items);
-    match made {
-        Made::NotAllowed => 0,
-        Made::Allowed(g) => g.words() as u64,
+    match Geometry::new(nodes, items, 2 * items) {
+        None => 0,
+        Some(g) => g.words() as u64,
     }
 }
 
@@ -49,7 +46,7 @@ pub extern "C" fn linkspan_check(table: &[u64]) -> u64
     ensures { result ≡ (numbers_at (check_of table.now) 0).answer }
 {
     let answer = layout::check::check(table);
-    let numbers = answers::numbers_of(answer);
+    let numbers = Numbers::from(answer);
     numbers.answer
 }
 
@@ -63,17 +60,15 @@ pub extern "C" fn linkspan_stretch(
 ) -> u64
     ensures { PartReports table.now node start.new words.new result }
 {
-    let at = layout::stretch::span_of(table, node);
-    match at {
-        Span::Refused(x) => {
+    match layout::stretch::span_of(table, node) {
+        Err(refusal) => {
             *start = 0;
             *words = 0;
-            let numbers = answers::numbers_of(Answer::Refused(x));
-            numbers.answer
+            u64::from(refusal)
         }
-        Span::Entries { start: from, end } => {
-            *start = from as u64;
-            *words = (end - from) as u64;
+        Ok(span) => {
+            *start = span.start as u64;
+            *words = (span.end - span.start) as u64;
             0
         }
     }

@@ -1,9 +1,10 @@
 -- Chunks one after the other: their bytes, and the lines of these.
-use Rattle.std.proofs.Common.{◌≡◌, ℕ, ◌+◌, ◌*◌, List, [], ◌++◌, length, Bool, true, false, Option, IfSome, refl, ap, ◌∙◌, subst, sym, arith, length-append}
+use Rattle.std.proofs.Common.{◌≡◌, ℕ, ◌+◌, ◌*◌, List, [], ◌++◌, length, Option, Some, None, IfSome, refl, ap, ◌∙◌, subst, sym, arith, length-append}
 use Rattle.std.specs.Io.KnownBytes.{Consumes, Appends}
 use Rattle.std.proofs.KnownBytes.{Consumes-nil, Appends-nil, Consumes-trans, Appends-trans, Consumes-whole}
 use Rattle.steps.specs.Run.{Quay, steps_up_to, lines_by, quay_after_all, lines_of, left_by}
 use Rattle.steps.proofs.Laws.Run.{lines_then, left_then}
+use Rattle.steps.specs.declared.serve.Progress.{Progress}
 use Rattle.quay.specs.code.Chunk.{ChunkRun}
 
 -- how far the chunks have come: whole records are read, and their lines written
@@ -27,25 +28,27 @@ module _ {q₀ : Quay} {file₀ lines₀ : Option (List ℕ)} where
     written = Appends-nil lines₀;
   }
 
-  module _ {q q' : Quay} {file file' lines lines' : Option (List ℕ)} {more : Bool} (s : ChunksRun q₀ q file₀ file lines₀ lines) (o : ChunkRun q q' file file' lines lines' more) where
+  module _ {q : Quay} {q' : Progress → Quay} {file file' lines lines' : Option (List ℕ)} {next : Option Progress} (s : ChunksRun q₀ q file₀ file lines₀ lines) (o : ChunkRun q q' file file' lines lines' next) where
     read_on : Consumes file₀ file' (s.bytes ++ o.bytes)
     read_on = Consumes-trans file₀ file file' s.bytes o.bytes s.read o.read
 
     written_on : Appends lines₀ lines' (lines_of q₀ (s.bytes ++ o.bytes))
     written_on =
-        let next : Appends lines lines' (lines_of (left_by q₀ s.bytes) o.bytes) = subst (λ (q : Quay). Appends lines lines' (lines_of q o.bytes)) s.state o.written in
-        subst (Appends lines₀ lines') (sym (lines_then q₀ s.records s.bytes o.bytes s.whole)) (Appends-trans lines₀ lines lines' _ _ s.written next)
+        let then : Appends lines lines' (lines_of (left_by q₀ s.bytes) o.bytes) = subst (λ (q : Quay). Appends lines lines' (lines_of q o.bytes)) s.state o.written in
+        subst (Appends lines₀ lines') (sym (lines_then q₀ s.records s.bytes o.bytes s.whole)) (Appends-trans lines₀ lines lines' _ _ s.written then)
 
-    pub chunks_next : more ≡ true → ChunksRun q₀ q' file₀ file' lines₀ lines'
-    chunks_next m = record {
-      bytes = s.bytes ++ o.bytes;
-      records = s.records + 64;
-      whole = rw length-append (omega (arith, s.whole, rw m at o.whole));
-      read = read_on;
-      state = o.state ∙ ap (λ (q : Quay). left_by q o.bytes) s.state ∙ sym (left_then q₀ s.records s.bytes o.bytes s.whole);
-      written = written_on;
-    }
+    pub chunks_next : {p : Progress} → next ≡ Some p → ChunksRun q₀ (q' p) file₀ file' lines₀ lines'
+    chunks_next m =
+        let on = rw m at o.goes_on in
+        record {
+          bytes = s.bytes ++ o.bytes;
+          records = s.records + 64;
+          whole = rw length-append (omega (arith, s.whole, on.0));
+          read = read_on;
+          state = on.1 ∙ ap (λ (q : Quay). left_by q o.bytes) s.state ∙ sym (left_then q₀ s.records s.bytes o.bytes s.whole);
+          written = written_on;
+        }
 
-    pub chunks_end : more ≡ false → IfSome file₀ (λ bytes. Appends lines₀ lines' (lines_of q₀ bytes))
+    pub chunks_end : next ≡ None → IfSome file₀ (λ bytes. Appends lines₀ lines' (lines_of q₀ bytes))
     chunks_end m =
-        Consumes-whole file₀ file' (s.bytes ++ o.bytes) (λ (bytes : List ℕ). Appends lines₀ lines' (lines_of q₀ bytes)) read_on (rw m at o.end) written_on
+        Consumes-whole file₀ file' (s.bytes ++ o.bytes) (λ (bytes : List ℕ). Appends lines₀ lines' (lines_of q₀ bytes)) read_on (rw m at o.goes_on) written_on

@@ -9,13 +9,6 @@ use std::io::{Read, Write};
 use steps::run;
 use steps::serve::Progress;
 
-// What a chunk leaves: the progress, and whether another chunk may follow.
-#[derive(Clone, Copy)]
-struct Left {
-    progress: Progress,
-    more: bool,
-}
-
 // Fills the bytes from the file, or as many of the first as it has left; answers how many.
 fn fill<R: Read>(file: &mut R, bytes: &mut [u8]) -> io::Result<usize>
     ensures count { IfOk result (λ n. n ≤ length bytes.new) }
@@ -34,28 +27,25 @@ fn fill<R: Read>(file: &mut R, bytes: &mut [u8]) -> io::Result<usize>
     Ok(count)
 }
 
-// Reads a chunk, runs it and writes its lines. A short one is the last.
+// Reads a chunk, runs it and writes its lines. The progress after it; None where it is short, and so the last.
 fn run_next<R: Read, W: Write>(
     file: &mut R,
     lines: &mut W,
     table: &mut [u64; 8000],
     scratch: &mut [u64; 272],
     progress: Progress,
-) -> io::Result<Left>
-    ensures { IfOk result (λ left. ChunkRun
-        (quay table.old scratch.old progress) (quay table.new scratch.new left.progress)
+) -> io::Result<Option<Progress>>
+    ensures { IfOk result (λ next. ChunkRun
+        (quay table.old scratch.old progress) (quay table.new scratch.new)
         (R.remaining file.old) (R.remaining file.new)
-        (W.contents lines.old) (W.contents lines.new) left.more) }
+        (W.contents lines.old) (W.contents lines.new) next) }
 {
     let mut bytes = [0u8; 1024];
     let mut out = [0u8; 5376];
     let n = fill(file, &mut bytes)?;
     let ran = run::run_chunk(table, scratch, progress, &bytes, n, &mut out);
     lines.write_all(&out[..ran.count])?;
-    Ok(Left {
-        progress: ran.progress,
-        more: n == run::CHUNK,
-    })
+    Ok((n == run::CHUNK).then_some(ran.progress))
 }
 
 // Runs a file's records, to the end of the file. Where its bytes are known, exactly quay's lines of them are written.
@@ -69,11 +59,11 @@ pub(crate) fn run_file<R: Read, W: Write>(file: &mut R, lines: &mut W) -> io::Re
     let mut scratch = run::scratch();
     let mut progress = run::start();
     for _ in 0..u64::MAX {
-        let left = run_next(file, lines, &mut table, &mut scratch, progress)?;
-        if !left.more {
+        let next = run_next(file, lines, &mut table, &mut scratch, progress)?;
+        let Some(after) = next else {
             return Ok(());
-        }
-        progress = left.progress;
+        };
+        progress = after;
     }
     Err(io::Error::other("the file does not end"))
 }

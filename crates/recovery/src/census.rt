@@ -9,7 +9,6 @@ ghost use Rattle.recovery.specs.code.Census.{side_bits, EntryNoted, RowReady, Ro
 use crate::{rows, tallies};
 use counting::choice;
 use entries::frames;
-use survivors::lost::Lost;
 use survivors::nodes;
 use table::geometry::Geometry;
 use table::words;
@@ -42,165 +41,171 @@ pub(crate) struct Census {
     pub(crate) plain: bool,
 }
 
-// The weight of an entry on the way forward, by the six top bits of its state word, the current and the kept code. Its
-// digits, ten bits each: the frames in use; whether the recovery copy has number 1; number 2; whether the codes are
-// out of form; whether it is the kept copy; whether there is one.
-fn forward_weight(top: u8) -> u64
-    requires { top < 64 }
-    ensures { result ≡ side_bits true top }
-{
-    match top {
-        0 => 0,
-        1 => 0x1,
-        2 => 0x1,
-        3 => 0x4000_0001,
-        4 => 0x1,
-        5 => 0x2,
-        6 => 0x2,
-        7 => 0x4000_0002,
-        8 => 0x1,
-        9 => 0x2,
-        10 => 0x2,
-        11 => 0x4000_0002,
-        12 => 0x1,
-        13 => 0x2,
-        14 => 0x2,
-        15 => 0x4000_0002,
-        16 => 0x4_0000_0000_0401,
-        17 => 0x4_0000_4000_0402,
-        18 => 0x4_0000_4000_0402,
-        19 => 0x4_0000_4000_0402,
-        20 => 0x4_0000_0010_0001,
-        21 => 0x4_0000_4010_0002,
-        22 => 0x4_0000_4010_0002,
-        23 => 0x4_0000_4010_0002,
-        24 => 0x4_0000_0000_0401,
-        25 => 0x4_0000_0000_0402,
-        26 => 0x4_0000_0000_0402,
-        27 => 0x4_0000_4000_0402,
-        28 => 0x4_0000_0010_0001,
-        29 => 0x4_0000_0010_0002,
-        30 => 0x4_0000_0010_0002,
-        31 => 0x4_0000_4010_0002,
-        32 => 0x4000_0001,
-        33 => 0x4000_0002,
-        34 => 0x4000_0002,
-        35 => 0x4000_0002,
-        36 => 0x4000_0001,
-        37 => 0x4000_0002,
-        38 => 0x4000_0002,
-        39 => 0x4000_0002,
-        40 => 0x4000_0001,
-        41 => 0x4000_0002,
-        42 => 0x4000_0002,
-        43 => 0x4000_0002,
-        44 => 0x4000_0001,
-        45 => 0x4000_0002,
-        46 => 0x4000_0002,
-        47 => 0x4000_0002,
-        48 => 0x4_0000_4000_0401,
-        49 => 0x4_0000_4000_0402,
-        50 => 0x4_0000_4000_0402,
-        51 => 0x4_0000_4000_0402,
-        52 => 0x4_0000_4010_0001,
-        53 => 0x4_0000_4010_0002,
-        54 => 0x4_0000_4010_0002,
-        55 => 0x4_0000_4010_0002,
-        56 => 0x4_0000_4000_0401,
-        57 => 0x4_0000_4000_0402,
-        58 => 0x4_0000_4000_0402,
-        59 => 0x4_0000_4000_0402,
-        60 => 0x4_0000_4010_0001,
-        61 => 0x4_0000_4010_0002,
-        62 => 0x4_0000_4010_0002,
-        63 => 0x4_0000_4010_0002,
-        _ => 0,
-    }
-}
+// The weights of an entry on the way forward, by the six top bits of its state word: for each current code those of the
+// four kept codes. Their digits, ten bits each: the frames in use; whether the recovery copy has number 1; number 2;
+// whether the codes are out of form; whether it is the kept copy; whether there is one.
+static FORWARD: [u64; 64] = [
+    // Invalid
+    0,
+    0x1,
+    0x1,
+    0x4000_0001,
+    // Shared
+    0x1,
+    0x2,
+    0x2,
+    0x4000_0002,
+    // Owner
+    0x1,
+    0x2,
+    0x2,
+    0x4000_0002,
+    // Modified
+    0x1,
+    0x2,
+    0x2,
+    0x4000_0002,
+    // Shared-CK1
+    0x4_0000_0000_0401,
+    0x4_0000_4000_0402,
+    0x4_0000_4000_0402,
+    0x4_0000_4000_0402,
+    // Shared-CK2
+    0x4_0000_0010_0001,
+    0x4_0000_4010_0002,
+    0x4_0000_4010_0002,
+    0x4_0000_4010_0002,
+    // Precommit1
+    0x4_0000_0000_0401,
+    0x4_0000_0000_0402,
+    0x4_0000_0000_0402,
+    0x4_0000_4000_0402,
+    // Precommit2
+    0x4_0000_0010_0001,
+    0x4_0000_0010_0002,
+    0x4_0000_0010_0002,
+    0x4_0000_4010_0002,
+    // no code
+    0x4000_0001,
+    0x4000_0002,
+    0x4000_0002,
+    0x4000_0002,
+    0x4000_0001,
+    0x4000_0002,
+    0x4000_0002,
+    0x4000_0002,
+    0x4000_0001,
+    0x4000_0002,
+    0x4000_0002,
+    0x4000_0002,
+    0x4000_0001,
+    0x4000_0002,
+    0x4000_0002,
+    0x4000_0002,
+    0x4_0000_4000_0401,
+    0x4_0000_4000_0402,
+    0x4_0000_4000_0402,
+    0x4_0000_4000_0402,
+    0x4_0000_4010_0001,
+    0x4_0000_4010_0002,
+    0x4_0000_4010_0002,
+    0x4_0000_4010_0002,
+    0x4_0000_4000_0401,
+    0x4_0000_4000_0402,
+    0x4_0000_4000_0402,
+    0x4_0000_4000_0402,
+    0x4_0000_4010_0001,
+    0x4_0000_4010_0002,
+    0x4_0000_4010_0002,
+    0x4_0000_4010_0002,
+];
 
 // The same on the way back.
-fn back_weight(top: u8) -> u64
-    requires { top < 64 }
-    ensures { result ≡ side_bits false top }
-{
-    match top {
-        0 => 0,
-        1 => 0x4_0100_0000_0401,
-        2 => 0x4_0100_0010_0001,
-        3 => 0x4_0100_4010_0401,
-        4 => 0x1,
-        5 => 0x4_0100_0000_0402,
-        6 => 0x4_0100_0010_0002,
-        7 => 0x4_0100_4010_0402,
-        8 => 0x1,
-        9 => 0x4_0100_0000_0402,
-        10 => 0x4_0100_0010_0002,
-        11 => 0x4_0100_4010_0402,
-        12 => 0x1,
-        13 => 0x4_0100_0000_0402,
-        14 => 0x4_0100_0010_0002,
-        15 => 0x4_0100_4010_0402,
-        16 => 0x4_0000_0000_0401,
-        17 => 0x4_0000_4000_0402,
-        18 => 0x4_0000_4000_0402,
-        19 => 0x4_0000_4000_0402,
-        20 => 0x4_0000_0010_0001,
-        21 => 0x4_0000_4010_0002,
-        22 => 0x4_0000_4010_0002,
-        23 => 0x4_0000_4010_0002,
-        24 => 0x1,
-        25 => 0x4_0100_0000_0402,
-        26 => 0x4_0100_0010_0002,
-        27 => 0x4_0100_4010_0402,
-        28 => 0x1,
-        29 => 0x4_0100_0000_0402,
-        30 => 0x4_0100_0010_0002,
-        31 => 0x4_0100_4010_0402,
-        32 => 0x4000_0001,
-        33 => 0x4_0100_4000_0402,
-        34 => 0x4_0100_4010_0002,
-        35 => 0x4_0100_4010_0402,
-        36 => 0x4000_0001,
-        37 => 0x4_0100_4000_0402,
-        38 => 0x4_0100_4010_0002,
-        39 => 0x4_0100_4010_0402,
-        40 => 0x4000_0001,
-        41 => 0x4_0100_4000_0402,
-        42 => 0x4_0100_4010_0002,
-        43 => 0x4_0100_4010_0402,
-        44 => 0x4000_0001,
-        45 => 0x4_0100_4000_0402,
-        46 => 0x4_0100_4010_0002,
-        47 => 0x4_0100_4010_0402,
-        48 => 0x4000_0001,
-        49 => 0x4_0100_4000_0402,
-        50 => 0x4_0100_4010_0002,
-        51 => 0x4_0100_4010_0402,
-        52 => 0x4000_0001,
-        53 => 0x4_0100_4000_0402,
-        54 => 0x4_0100_4010_0002,
-        55 => 0x4_0100_4010_0402,
-        56 => 0x4000_0001,
-        57 => 0x4_0100_4000_0402,
-        58 => 0x4_0100_4010_0002,
-        59 => 0x4_0100_4010_0402,
-        60 => 0x4000_0001,
-        61 => 0x4_0100_4000_0402,
-        62 => 0x4_0100_4010_0002,
-        63 => 0x4_0100_4010_0402,
-        _ => 0,
-    }
-}
+static BACK: [u64; 64] = [
+    // Invalid
+    0,
+    0x4_0100_0000_0401,
+    0x4_0100_0010_0001,
+    0x4_0100_4010_0401,
+    // Shared
+    0x1,
+    0x4_0100_0000_0402,
+    0x4_0100_0010_0002,
+    0x4_0100_4010_0402,
+    // Owner
+    0x1,
+    0x4_0100_0000_0402,
+    0x4_0100_0010_0002,
+    0x4_0100_4010_0402,
+    // Modified
+    0x1,
+    0x4_0100_0000_0402,
+    0x4_0100_0010_0002,
+    0x4_0100_4010_0402,
+    // Shared-CK1
+    0x4_0000_0000_0401,
+    0x4_0000_4000_0402,
+    0x4_0000_4000_0402,
+    0x4_0000_4000_0402,
+    // Shared-CK2
+    0x4_0000_0010_0001,
+    0x4_0000_4010_0002,
+    0x4_0000_4010_0002,
+    0x4_0000_4010_0002,
+    // Precommit1
+    0x1,
+    0x4_0100_0000_0402,
+    0x4_0100_0010_0002,
+    0x4_0100_4010_0402,
+    // Precommit2
+    0x1,
+    0x4_0100_0000_0402,
+    0x4_0100_0010_0002,
+    0x4_0100_4010_0402,
+    // no code
+    0x4000_0001,
+    0x4_0100_4000_0402,
+    0x4_0100_4010_0002,
+    0x4_0100_4010_0402,
+    0x4000_0001,
+    0x4_0100_4000_0402,
+    0x4_0100_4010_0002,
+    0x4_0100_4010_0402,
+    0x4000_0001,
+    0x4_0100_4000_0402,
+    0x4_0100_4010_0002,
+    0x4_0100_4010_0402,
+    0x4000_0001,
+    0x4_0100_4000_0402,
+    0x4_0100_4010_0002,
+    0x4_0100_4010_0402,
+    0x4000_0001,
+    0x4_0100_4000_0402,
+    0x4_0100_4010_0002,
+    0x4_0100_4010_0402,
+    0x4000_0001,
+    0x4_0100_4000_0402,
+    0x4_0100_4010_0002,
+    0x4_0100_4010_0402,
+    0x4000_0001,
+    0x4_0100_4000_0402,
+    0x4_0100_4010_0002,
+    0x4_0100_4010_0402,
+    0x4000_0001,
+    0x4_0100_4000_0402,
+    0x4_0100_4010_0002,
+    0x4_0100_4010_0402,
+];
 
 // The weight of an entry with this state word on a side.
 fn weight(state: u64, forward: bool) -> u64
     ensures { result ≡ side_bits forward (top_of state) }
 {
-    let top = (state / 0x400_0000_0000_0000) as u8;
+    let top = (state / 0x400_0000_0000_0000) as usize;
     if forward {
-        return forward_weight(top);
+        return FORWARD[top];
     }
-    back_weight(top)
+    BACK[top]
 }
 
 // Notes the entry of an item at a place; a recovery copy adds to the tally by the node's step.
@@ -248,14 +253,13 @@ fn note_row(
     ensures { RowNoted g forward (view g table.now) node list.old list.new tallies.old tallies.new firsts.old firsts.new result }
 {
     let start = g.entry_at(node, 0);
-    let count = rows::occupied(table, g, node, list);
+    let occupied = rows::occupied(table, g, node, list);
     let step = tallies::step(node);
     let mut low: u64 = 0;
     let mut sum: u64 = 0;
     let mut differ: u64 = 0;
-    let mut k: usize = 0;
-    while k < count {
-        let item = list[k] as usize;
+    for &item in occupied {
+        let item = item as usize;
         let note = note_entry(
             table,
             start + Geometry::ENTRY_WORDS * item,
@@ -266,9 +270,8 @@ fn note_row(
             firsts,
         );
         sum += note.weight;
-        low = low | note.low;
-        differ = differ | note.differ;
-        k += 1;
+        low |= note.low;
+        differ |= note.differ;
     }
     Turn {
         forms: (low == 0) & (sum / 0x4000_0000 % 1024 == 0),
@@ -290,7 +293,7 @@ pub(crate) struct Found {
 fn note_node(
     table: &[u64],
     g: Geometry,
-    lost: Lost,
+    lost: Option<u64>,
     forward: bool,
     node: u8,
     list: &mut [u16],
@@ -322,7 +325,7 @@ fn note_node(
 fn note_nodes(
     table: &[u64],
     g: Geometry,
-    lost: Lost,
+    lost: Option<u64>,
     forward: bool,
     list: &mut [u16],
     tallies: &mut [u64],
@@ -332,15 +335,12 @@ fn note_nodes(
     requires { Takable g table.now list.old tallies.old firsts.old used.old }
     ensures { NodesNoted g forward (survivors lost (view g table.now)) list.old list.new tallies.new used.new result }
 {
-    let nodes = g.nodes;
     let mut formed = true;
     let mut agree = true;
-    let mut node: u8 = 0;
-    while node < nodes {
+    for node in 0..g.nodes {
         let found = note_node(table, g, lost, forward, node, list, tallies, firsts, used);
-        formed = formed & found.formed;
-        agree = agree & found.agree;
-        node += 1;
+        formed &= found.formed;
+        agree &= found.agree;
     }
     Found { formed, agree }
 }
@@ -358,13 +358,9 @@ fn kinds_of(items: u16, tallies: &[u64]) -> Kinds
 {
     let mut seen = true;
     let mut plain = true;
-    let mut item: u16 = 0;
-    while item < items {
-        let tally = tallies[item as usize];
-        seen = seen & (tally != 0);
-        let one = tallies::plain(tally);
-        plain = plain & one;
-        item += 1;
+    for &tally in &tallies[..items as usize] {
+        seen &= tally != 0;
+        plain &= tallies::plain(tally);
     }
     Kinds { seen, plain }
 }
@@ -373,7 +369,7 @@ fn kinds_of(items: u16, tallies: &[u64]) -> Kinds
 pub(crate) fn take(
     table: &[u64],
     g: Geometry,
-    lost: Lost,
+    lost: Option<u64>,
     forward: bool,
     list: &mut [u16],
     tallies: &mut [u64],

@@ -1,22 +1,17 @@
 // The mark that a recovery stores first, the lost one.
 ghost use Rattle.std.specs.Prelude.{◌≡◌, false};
-ghost use Rattle.table.specs.Stores.{Stored};
+ghost use Rattle.table.specs.Made.{Made};
 ghost use Rattle.survivors.specs.Survivors.{lost_stores, lost_outside};
 
-use survivors::lost::Lost;
-use table::geometry::Geometry;
-use table::stores;
+use table::stores::Stores;
 
 // The lost mark to 0, stored even if it is 0 already.
-pub(crate) fn store_lost(table: &mut [u64], left: u64, g: Geometry, lost: Lost) -> u64
-    requires { lost_outside g lost ≡ false }
-    ensures { Stored g left (lost_stores lost) table.old table.new result }
+pub(crate) fn store_lost(stores: &mut Stores, lost: Option<u64>)
+    requires { lost_outside stores.old.g lost ≡ false }
+    ensures { Made stores.old (lost_stores lost) stores.new }
 {
-    match lost {
-        Lost::Nobody => left,
-        Lost::Node(n) => {
-            let node = n as u8;
-            stores::store_mark(table, left, g, node, 0)
-        }
+    if let Some(node) = lost {
+        prove!(node < stores.g.nodes as u64);
+        stores.store_mark(node as u8, 0);
     }
 }

@@ -1,7 +1,6 @@
 // Recover: what it turns down, its stages one after the other, and the scratch.
-ghost use Rattle.std.specs.Prelude.{◌≡◌, ◌≤◌, length};
+ghost use Rattle.std.specs.Prelude.{◌≡◌, ◌≤◌, length, Ok};
 ghost use Rattle.table.specs.View.{view};
-ghost use Rattle.entries.specs.declared.check.Checked.TheVariants.{Passed};
 ghost use Rattle.entries.specs.code.SurveySound.{Surveyable};
 ghost use Rattle.survivors.specs.Survivors.{survivors};
 ghost use Rattle.recovery.specs.Sides.{items_fit};
@@ -10,12 +9,10 @@ ghost use Rattle.recovery.specs.code.PairsCode.{Pairable, Pairs};
 ghost use Rattle.recovery.specs.code.RecoverCode.{Roomy, StoresReady, RestoreReady, StagesStored, Recovers};
 
 use crate::{census, marks, numbering, partners, rolling, scratch};
-use entries::check::Checked;
-use homes::admission::Admission;
-use survivors::lost::Lost;
 use survivors::{closing, direction, nodes};
 use table::answers::{Answer, Refusal};
 use table::geometry::Geometry;
+use table::stores::Stores;
 
 // The words of the scratch that a recovery uses.
 fn scratch_words(g: Geometry) -> usize
@@ -29,110 +26,98 @@ fn scratch_words(g: Geometry) -> usize
 fn admit_recover(
     table: &[u64],
     g: Geometry,
-    lost: Lost,
+    lost: Option<u64>,
     room: usize,
     formed: bool,
     fit: bool,
-) -> Admission
+) -> Result<(), Refusal>
     requires { (formed ≡ survivors_formed g (survivors lost (view g table.now))) × (fit ≡ items_fit g (survivors lost (view g table.now))) }
     ensures { result ≡ recover_admission g (survivors lost (view g table.now)) lost room }
 {
-    let outside = nodes::lost_outside(g, lost);
-    if outside {
-        return Admission::Turned(Refusal::NoNode);
+    if nodes::lost_outside(g, lost) {
+        return Err(Refusal::NoNode);
     }
-    let words = scratch_words(g);
-    if room < words {
-        return Admission::Turned(Refusal::ShortScratch);
+    if room < scratch_words(g) {
+        return Err(Refusal::ShortScratch);
     }
     if !formed {
-        return Admission::Turned(Refusal::NotSound);
+        return Err(Refusal::NotSound);
     }
-    let few = nodes::too_few(table, g, lost);
-    if few {
-        return Admission::Turned(Refusal::TooFewNodes);
+    if nodes::too_few(table, g, lost) {
+        return Err(Refusal::TooFewNodes);
     }
     if !fit {
-        return Admission::Turned(Refusal::NoRecoveryCopy);
+        return Err(Refusal::NoRecoveryCopy);
     }
-    Admission::Admitted
+    Ok(())
 }
 
 // Numbering, then partners, by the tallies of the census. Where no item has two recovery copies of one number,
 // numbering has nothing to do, and the frames in use are those of the census too.
 fn pair(
-    table: &mut [u64],
-    left: u64,
-    g: Geometry,
-    lost: Lost,
+    stores: &mut Stores,
+    lost: Option<u64>,
     scratch: &mut [u64],
     tallies: &[u64],
-    used: &[u64],
+    used: &[u64; 16],
     plain: bool,
-) -> u64
-    requires { Pairable g lost left plain table.old scratch.old tallies.now used.now }
-    ensures { Pairs g lost left table.old table.new scratch.old scratch.new result }
+)
+    requires { Pairable lost plain stores.old scratch.old tallies.now used.now }
+    ensures { Pairs lost stores.old stores.new scratch.old scratch.new }
 {
     if plain {
-        partners::fill_counted(g.nodes, used, scratch);
-        return partners::partner_items(table, left, g, lost, scratch, tallies);
+        partners::fill_counted(stores.g.nodes, used, scratch);
+    } else {
+        numbering::number(stores, lost, tallies);
+        let table = &mut *stores.table;
+        partners::fill_used(table, stores.g, lost, scratch);
     }
-    let left = numbering::number(table, left, g, lost, tallies);
-    partners::fill_used(table, g, lost, scratch);
-    partners::partner_items(table, left, g, lost, scratch, tallies)
+    partners::partner_items(stores, lost, scratch, tallies);
 }
 
 // What is stored on the survivors, stage by stage.
 fn survivor_stores(
-    table: &mut [u64],
-    left: u64,
-    g: Geometry,
-    lost: Lost,
+    stores: &mut Stores,
+    lost: Option<u64>,
     scratch: &mut [u64],
     forward: bool,
     list: &mut [u16],
     tallies: &[u64],
-    used: &[u64],
+    used: &[u64; 16],
     plain: bool,
-) -> u64
-    requires { RestoreReady g lost forward plain table.old scratch.old list.old tallies.now used.now }
-    ensures { StagesStored g lost left table.old table.new scratch.old scratch.new result }
+)
+    requires { RestoreReady lost forward plain stores.old scratch.old list.old tallies.now used.now }
+    ensures { StagesStored lost stores.old stores.new scratch.old scratch.new }
 {
-    let left = rolling::roll(table, left, g, lost, forward, list);
-    let left = pair(table, left, g, lost, scratch, tallies, used, plain);
-    closing::close(table, left, g, lost)
+    rolling::roll(stores, lost, forward, list);
+    pair(stores, lost, scratch, tallies, used, plain);
+    closing::close(stores, lost);
 }
 
 // All stores of a recovery; the scratch is zero where it was used.
 fn recover_stores(
-    table: &mut [u64],
-    left: u64,
-    g: Geometry,
-    lost: Lost,
+    stores: &mut Stores,
+    lost: Option<u64>,
     scratch: &mut [u64],
     forward: bool,
     list: &mut [u16],
     tallies: &[u64],
-    used: &[u64],
+    used: &[u64; 16],
     plain: bool,
-) -> u64
-    requires { StoresReady g lost forward plain table.old scratch.old list.old tallies.now used.now }
-    ensures { Recovers g lost left table.old table.new scratch.old scratch.new result }
+)
+    requires { StoresReady lost forward plain stores.old scratch.old list.old tallies.now used.now }
+    ensures { Recovers lost stores.old stores.new scratch.old scratch.new }
 {
-    let words = scratch_words(g);
-    let left = marks::store_lost(table, left, g, lost);
-    let left = survivor_stores(
-        table, left, g, lost, scratch, forward, list, tallies, used, plain,
-    );
-    scratch::clear(scratch, words);
-    left
+    marks::store_lost(stores, lost);
+    survivor_stores(stores, lost, scratch, forward, list, tallies, used, plain);
+    scratch::clear(scratch, scratch_words(stores.g));
 }
 
 // A recovery with a list, tallies and first values that are long enough, the latter two zero.
 fn recover_in(
     table: &mut [u64],
     g: Geometry,
-    lost: Lost,
+    lost: Option<u64>,
     scratch: &mut [u64],
     limit: u64,
     list: &mut [u16],
@@ -140,80 +125,49 @@ fn recover_in(
     firsts: &mut [u64],
 ) -> Answer
     requires { Surveyable g table.old × Roomy g list.old tallies.old firsts.old }
-    ensures { RecoverMeets (recover_checked table.old lost (length scratch.old) (Passed g)) limit table.old table.new scratch.old scratch.new result }
+    ensures { RecoverMeets (recover_checked table.old lost (length scratch.old) (Ok g)) limit table.old table.new scratch.old scratch.new result }
 {
     let mut used: [u64; 16] = [0; 16];
     let forward = direction::forward_in(table, g, lost);
     let census = census::take(table, g, lost, forward, list, tallies, firsts, &mut used);
-    let plain = census.plain;
-    let room = scratch.len();
-    let admission = admit_recover(table, g, lost, room, census.formed, census.fit);
-    match admission {
-        Admission::Turned(x) => Answer::Refused(x),
-        Admission::Admitted => {
-            let left = recover_stores(
-                table, limit, g, lost, scratch, forward, list, tallies, &used, plain,
-            );
-            let stores = limit - left;
-            Answer::Done { value: 0, stores }
-        }
+    if let Err(refusal) = admit_recover(table, g, lost, scratch.len(), census.formed, census.fit) {
+        return Answer::Refused(refusal);
+    }
+    let mut stores = Stores {
+        table,
+        g,
+        left: limit,
+    };
+    recover_stores(
+        &mut stores,
+        lost,
+        scratch,
+        forward,
+        list,
+        tallies,
+        &used,
+        census.plain,
+    );
+    Answer::Done {
+        value: 0,
+        stores: limit - stores.left,
     }
 }
 
-// Of at most 16 items.
-fn recover_16(table: &mut [u64], g: Geometry, lost: Lost, scratch: &mut [u64], limit: u64) -> Answer
-    requires { (g.items ≤ 16) × Surveyable g table.old }
-    ensures { RecoverMeets (recover_checked table.old lost (length scratch.old) (Passed g)) limit table.old table.new scratch.old scratch.new result }
-{
-    let mut list: [u16; 16] = [0; 16];
-    let mut tallies: [u64; 16] = [0; 16];
-    let mut firsts: [u64; 16] = [0; 16];
-    recover_in(
-        table,
-        g,
-        lost,
-        scratch,
-        limit,
-        &mut list,
-        &mut tallies,
-        &mut firsts,
-    )
-}
-
-// Of at most 64 items.
-fn recover_64(table: &mut [u64], g: Geometry, lost: Lost, scratch: &mut [u64], limit: u64) -> Answer
-    requires { (g.items ≤ 64) × Surveyable g table.old }
-    ensures { RecoverMeets (recover_checked table.old lost (length scratch.old) (Passed g)) limit table.old table.new scratch.old scratch.new result }
-{
-    let mut list: [u16; 64] = [0; 64];
-    let mut tallies: [u64; 64] = [0; 64];
-    let mut firsts: [u64; 64] = [0; 64];
-    recover_in(
-        table,
-        g,
-        lost,
-        scratch,
-        limit,
-        &mut list,
-        &mut tallies,
-        &mut firsts,
-    )
-}
-
-// Of at most 256 items.
-fn recover_256(
+// A recovery of at most ITEMS items.
+fn recover_of<const ITEMS: usize>(
     table: &mut [u64],
     g: Geometry,
-    lost: Lost,
+    lost: Option<u64>,
     scratch: &mut [u64],
     limit: u64,
 ) -> Answer
-    requires { Surveyable g table.old }
-    ensures { RecoverMeets (recover_checked table.old lost (length scratch.old) (Passed g)) limit table.old table.new scratch.old scratch.new result }
+    requires { (g.items ≤ ITEMS) × ((ITEMS ≤ 256) × Surveyable g table.old) }
+    ensures { RecoverMeets (recover_checked table.old lost (length scratch.old) (Ok g)) limit table.old table.new scratch.old scratch.new result }
 {
-    let mut list: [u16; 256] = [0; 256];
-    let mut tallies: [u64; 256] = [0; 256];
-    let mut firsts: [u64; 256] = [0; 256];
+    let mut list = [0u16; ITEMS];
+    let mut tallies = [0u64; ITEMS];
+    let mut firsts = [0u64; ITEMS];
     recover_in(
         table,
         g,
@@ -230,30 +184,26 @@ fn recover_256(
 fn recover_sized(
     table: &mut [u64],
     g: Geometry,
-    lost: Lost,
+    lost: Option<u64>,
     scratch: &mut [u64],
     limit: u64,
 ) -> Answer
     requires { Surveyable g table.old }
-    ensures { RecoverMeets (recover_checked table.old lost (length scratch.old) (Passed g)) limit table.old table.new scratch.old scratch.new result }
+    ensures { RecoverMeets (recover_checked table.old lost (length scratch.old) (Ok g)) limit table.old table.new scratch.old scratch.new result }
 {
-    let items = g.items;
-    if items <= 16 {
-        return recover_16(table, g, lost, scratch, limit);
+    match g.items {
+        0..=16 => recover_of::<16>(table, g, lost, scratch, limit),
+        17..=64 => recover_of::<64>(table, g, lost, scratch, limit),
+        _ => recover_of::<256>(table, g, lost, scratch, limit),
     }
-    if items <= 64 {
-        return recover_64(table, g, lost, scratch, limit);
-    }
-    recover_256(table, g, lost, scratch, limit)
 }
 
 // Brings the survivors back to the last recovery point, or on to the new one, in at most `limit` stores.
-pub fn recover(table: &mut [u64], lost: Lost, scratch: &mut [u64], limit: u64) -> Answer
+pub fn recover(table: &mut [u64], lost: Option<u64>, scratch: &mut [u64], limit: u64) -> Answer
     ensures { RecoverMeets (recover_of table.old lost (length scratch.old)) limit table.old table.new scratch.old scratch.new result }
 {
-    let sized = entries::check::sizes(table);
-    match sized {
-        Checked::Failed(x) => Answer::Refused(x),
-        Checked::Passed(g) => recover_sized(table, g, lost, scratch, limit),
+    match entries::check::sizes(table) {
+        Err(refusal) => Answer::Refused(refusal),
+        Ok(g) => recover_sized(table, g, lost, scratch, limit),
     }
 }

@@ -4,7 +4,7 @@ ghost use Rattle.std.specs.Prelude.{◌≡◌, ◌+◌, ◌*◌, ◌/◌, ◌<�
 ghost use Rattle.table.specs.Geometry.{words_of};
 ghost use Rattle.table.specs.View.{view};
 ghost use Rattle.entries.specs.code.Row.{row_state};
-ghost use Rattle.recovery.specs.code.Rows.{HasEntry, state_in, Listing, ListedMore};
+ghost use Rattle.recovery.specs.code.Rows.{HasEntry, state_in, Listing, ListedMore, ListedAll};
 
 use table::geometry::Geometry;
 
@@ -34,14 +34,10 @@ fn gather_fours(table: &[u64], start: usize, items: u16, list: &mut [u16]) -> us
     requires { (start < 1000000000) × ((start + 3 * items ≤ length table.now) × (items ≤ length list.old)) }
     ensures { Listing (row_state table.now start) (items / 4 * 4) list.old list.new result }
 {
-    let most = items / 4 * 4;
-    let mut at = start;
     let mut count: usize = 0;
-    let mut item: u16 = 0;
-    while item < most {
-        count = gather_four(table, at, item, list, count);
-        at += 12;
-        item += 4;
+    for four in 0..items / 4 {
+        let at = start + 4 * Geometry::ENTRY_WORDS * (four as usize);
+        count = gather_four(table, at, 4 * four, list, count);
     }
     count
 }
@@ -52,23 +48,21 @@ fn occupied_row(table: &[u64], start: usize, items: u16, list: &mut [u16]) -> us
     ensures { Listing (row_state table.now start) items list.old list.new result }
 {
     let mut count = gather_fours(table, start, items, list);
-    let mut item = items / 4 * 4;
-    let mut at = start + Geometry::ENTRY_WORDS * (item as usize);
-    while item < items {
+    for item in items / 4 * 4..items {
+        let at = start + Geometry::ENTRY_WORDS * (item as usize);
         count = gather_one(table, at, item, list, count);
-        at += Geometry::ENTRY_WORDS;
-        item += 1;
     }
     count
 }
 
-// Those of a node.
-pub(crate) fn occupied(table: &[u64], g: Geometry, node: u8, list: &mut [u16]) -> usize
+// Those of a node, in a part of the list.
+pub(crate) fn occupied<'a>(table: &[u64], g: Geometry, node: u8, list: &'a mut [u16]) -> &'a [u16]
     requires { (node < g.nodes) × ((words_of g ≤ length table.now) × (g.items ≤ length list.old)) }
-    ensures { Listing (state_in (view g table.now) node) g.items list.old list.new result }
+    ensures { ListedAll (state_in (view g table.now) node) g.items result.now }
 {
     let start = g.entry_at(node, 0);
-    occupied_row(table, start, g.items, list)
+    let count = occupied_row(table, start, g.items, list);
+    &list[..count]
 }
 
 // The state word of a node's entry, read at its place.

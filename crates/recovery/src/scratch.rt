@@ -6,9 +6,5 @@ pub(crate) fn clear(scratch: &mut [u64], words: usize)
     requires { words ≤ length scratch.old }
     ensures { scratch.new ≡ replicate words 0 ++ drop words scratch.old }
 {
-    let mut at: usize = 0;
-    while at < words {
-        scratch[at] = 0;
-        at += 1;
-    }
+    scratch[..words].fill(0)
 }

@@ -1,5 +1,5 @@
 -- DEMAND 2, as one type. Its words stand above the parts that render them.
-use Rattle.std.specs.Prelude.{ℕ, ◌<◌, ◌≡◌, ◌≢◌, Bool, true, false, not, ◌&&◌, List, eqb, ltb}
+use Rattle.std.specs.Prelude.{ℕ, ◌<◌, ◌≡◌, ◌≢◌, Bool, true, false, not, ◌&&◌, List, eqb, ltb, Ok}
 use Rattle.std.proofs.Math.Option.{Option, none, some}
 use Rattle.table.specs.declared.geometry.Geometry.{Geometry}
 use Rattle.table.specs.declared.answers.Refusal.{Refusal}
@@ -7,9 +7,7 @@ use Rattle.table.specs.Words.{number_of, invalid}
 use Rattle.table.specs.Stores.{Store}
 use Rattle.table.specs.View.{Entry, View, view, live}
 use Rattle.table.specs.Answers.{Plan, refuse, nothing_left, carry, refusal_number}
-use Rattle.entries.specs.declared.check.Checked.TheVariants.{Passed}
 use Rattle.entries.specs.Check.{fault_of}
-use Rattle.homes.specs.declared.admission.Admission.TheVariants.{Admitted}
 use Rattle.homes.specs.declared.places.Place.{Place}
 use Rattle.homes.specs.declared.places.Place.TheVariants.{Current}
 use Rattle.homes.specs.Admission.{admission_of}
@@ -61,7 +59,7 @@ pub record Demand2 : Type 0 where
       {t : List ℕ} {memory : Memory} {commits : ℕ} (history : History t memory commits) (n b : ℕ) {g : Geometry} {x : ℕ} {ss : List Store}
       → read_of t n b ≡ carry g x ss → x ≡ value_of memory b
   -- and no call of a history is refused for the table: it passes checks 1, 3, 1 and 2
-  pub never_refused : {t : List ℕ} {memory : Memory} {commits : ℕ} → History t memory commits → fault_of t ≡ Passed (geometry_in t)
+  pub never_refused : {t : List ℕ} {memory : Memory} {commits : ℕ} → History t memory commits → fault_of t ≡ Ok (geometry_in t)
   -- so none but Format is refused with 1, 2 or 3; nor with 20: "Tables already formatted go on working." (K7)
   pub own_refusals :
       {t : List ℕ} {memory : Memory} {commits : ℕ} → History t memory commits → (s : Step) → is_format s.call ≡ false → (r : Refusal)
@@ -72,10 +70,10 @@ pub record Demand2 : Type 0 where
       → number_of ((view (geometry_in t) t).mark n) ≡ commits
   -- "A copy is refused a home exactly if no other live node can take it.": Evict, on any table and with any arguments that it gets so far with
   pub evict_home :
-      (t : List ℕ) (n b : ℕ) (place : Place) {g : Geometry} → fault_of t ≡ Passed g → admission_of g (view g t) n b ≡ Admitted
+      (t : List ℕ) (n b : ℕ) (place : Place) {g : Geometry} → fault_of t ≡ Ok g → admission_of g (view g t) n b ≡ (Ok tt)
       → goes_home place ((view g t).entry n b) ≡ true → homeless (evict_of t n b place) ≡ no_other g (view g t) place n b
   -- and Create, for the lowest dirty item, whose second copy goes to a Shared one where there is one
   pub create_home :
-      (t : List ℕ) (b : ℕ) {g : Geometry} → fault_of t ≡ Passed g → open_admission g (view g t) ≡ Admitted → dirty_item g (view g t) ≡ b → b < g.items
+      (t : List ℕ) (b : ℕ) {g : Geometry} → fault_of t ≡ Ok g → open_admission g (view g t) ≡ (Ok tt) → dirty_item g (view g t) ≡ b → b < g.items
       → homeless (create_of t)
       ≡ (not (ltb (sharer_of g (view g t) b) g.nodes) && no_other g (view g t) Current (owner_of g (view g t) b) b)

@@ -1,12 +1,10 @@
 -- Document 01's examples marked P, in one table; with what document 02 makes of those with 1 frame a node (K2).
-use Rattle.std.specs.Prelude.{ℕ, ◌≡◌, cond, List, [], ◌∷◌, ◌++◌, eqb, get_or, take, replicate}
+use Rattle.std.specs.Prelude.{ℕ, ◌≡◌, cond, List, [], ◌∷◌, ◌++◌, eqb, get_or, take, replicate, None, Option, Some}
 use Rattle.table.specs.View.{view, current}
 use Rattle.table.specs.declared.answers.Numbers.{Numbers}
 use Rattle.table.specs.Answers.{Plan, numbers_at, table_of}
 use Rattle.layout.specs.Formatted.{fresh_on}
 use Rattle.homes.specs.declared.places.Place.TheVariants.{Current}
-use Rattle.survivors.specs.declared.lost.Lost.{Lost}
-use Rattle.survivors.specs.declared.lost.Lost.TheVariants.{Nobody, Node}
 use Rattle.restore.specs.declared.call.Call.{Call}
 use Rattle.restore.specs.declared.call.Call.TheVariants.{Format, Read, Write, Evict, Open, Create, Commit, Recover}
 use Rattle.restore.specs.Run.{Step, geometry_in, store_count, plan_at, table_by, run}
@@ -32,7 +30,7 @@ records =
     ∷ step Create
     ∷ step Commit
     ∷ step (Write 0 0 9)
-    ∷ step (Recover (Node 2))
+    ∷ step (Recover (Some 2))
     ∷ step (Read 1 0)
     ∷ step (Read 2 0)
     ∷ []
@@ -47,7 +45,7 @@ before k = run zeros (take k records)
 abbrev pub cut_commit : ℕ → List ℕ
 cut_commit limit = table_of (plan_at (before 5) (step Commit)) limit (before 5)
 
-abbrev pub recovered : ℕ → Lost → List ℕ
+abbrev pub recovered : ℕ → Option ℕ → List ℕ
 recovered limit lost = table_by (cut_commit limit) (step (Recover lost))
 
 -- the words of Format's list for "geometry 3, 1, 1"
@@ -60,10 +58,10 @@ tight calls = run (replicate 21 0) (step (Format 5 1 1) ∷ calls)
 
 -- a write at node 2 where node 3 is dead, and where node 4 is too
 abbrev pub one_dead : List Step
-one_dead = step (Recover (Node 3)) ∷ step (Write 2 0 7) ∷ []
+one_dead = step (Recover (Some 3)) ∷ step (Write 2 0 7) ∷ []
 
 abbrev pub two_dead : List Step
-two_dead = step (Recover (Node 3)) ∷ step (Recover (Node 4)) ∷ step (Write 2 0 7) ∷ []
+two_dead = step (Recover (Some 3)) ∷ step (Recover (Some 4)) ∷ step (Write 2 0 7) ∷ []
 
 -- ---- the rows: what the definitions give, and what the documents say
 
@@ -140,19 +138,19 @@ examples =
     -- "read node 2"
     ∷ line 9 6 0 0
     -- "that commit cut after 1 store: lost node 0 gives 0", at each survivor
-    ∷ gives (recovered 1 (Node 0)) 1 0
-    ∷ gives (recovered 1 (Node 0)) 2 0
+    ∷ gives (recovered 1 (Some 0)) 1 0
+    ∷ gives (recovered 1 (Some 0)) 2 0
     -- "lost 1, 2 or none gives 7"
-    ∷ gives (recovered 1 (Node 1)) 0 7
-    ∷ gives (recovered 1 (Node 1)) 2 7
-    ∷ gives (recovered 1 (Node 2)) 0 7
-    ∷ gives (recovered 1 (Node 2)) 1 7
-    ∷ gives (recovered 1 Nobody) 0 7
-    ∷ gives (recovered 1 Nobody) 1 7
-    ∷ gives (recovered 1 Nobody) 2 7
+    ∷ gives (recovered 1 (Some 1)) 0 7
+    ∷ gives (recovered 1 (Some 1)) 2 7
+    ∷ gives (recovered 1 (Some 2)) 0 7
+    ∷ gives (recovered 1 (Some 2)) 1 7
+    ∷ gives (recovered 1 None) 0 7
+    ∷ gives (recovered 1 None) 1 7
+    ∷ gives (recovered 1 None) 2 7
     -- "cut after 2 stores: lost node 0 gives 7"
-    ∷ gives (recovered 2 (Node 0)) 1 7
-    ∷ gives (recovered 2 (Node 0)) 2 7
+    ∷ gives (recovered 2 (Some 0)) 1 7
+    ∷ gives (recovered 2 (Some 0)) 2 7
     -- "after record 1, evicting node 2's current place takes 3 stores"
     ∷ call (before 2) (step (Evict 2 0 Current)) 0 0 3
     -- "node 0 is Modified": "Current: .. 3 Modified (exclusive)"

@@ -1,20 +1,14 @@
 -- A REHEARSAL: demand 3, carried out by the code on a lent table. What it is given, as words; the tables that it goes through; what makes it a strike.
-use Rattle.std.specs.Prelude.{ℕ, zero, suc, ◌+◌, ◌-◌, ◌*◌, ◌/◌, ◌≤◌, min, ◌≡◌, true, cond, Bool, false, List, [], ◌∷◌, ◌++◌, eqb, ltb, length, get_or, set}
+use Rattle.std.specs.Prelude.{ℕ, zero, suc, ◌+◌, ◌-◌, ◌*◌, ◌/◌, ◌≤◌, min, ◌≡◌, true, cond, Bool, false, List, [], ◌∷◌, ◌++◌, eqb, ltb, length, get_or, set, Err, None, Ok, Option, Result, Some}
 use Rattle.std.proofs.Common.{arith}
 use Rattle.table.specs.declared.geometry.Geometry.{Geometry}
 use Rattle.table.specs.Geometry.{entry_words, mark_at, entry_at}
 use Rattle.table.specs.View.{view}
 use Rattle.table.specs.Answers.{Plan, table_of, answer_of}
-use Rattle.entries.specs.declared.check.Checked.{Checked}
-use Rattle.entries.specs.declared.check.Checked.TheVariants.{Passed, Failed}
 use Rattle.entries.specs.Check.{sizes_of}
-use Rattle.survivors.specs.declared.lost.Lost.{Lost}
-use Rattle.survivors.specs.declared.lost.Lost.TheVariants.{Nobody, Node}
 use Rattle.layout.specs.Formatted.{Formatted}
 use Rattle.restore.specs.declared.call.Call.{Call}
 use Rattle.restore.specs.declared.call.Call.TheVariants.{Check}
-use Rattle.restore.specs.declared.operations.Operation.{Operation}
-use Rattle.restore.specs.declared.operations.Operation.TheVariants.{Known, Unknown}
 use Rattle.restore.specs.Operations.{call_by}
 use Rattle.recovery.specs.Recover.{scratch_words, recover_of, scratch_after}
 use Rattle.restore.specs.Call.{scratch_by}
@@ -25,13 +19,14 @@ use Rattle.table.specs.declared.answers.Answer.TheVariants.{Done}
 use Rattle.survivors.specs.Survivors.{survivors, too_few}
 use Rattle.restore.specs.Strike as strikes
 use Rattle.restore.specs.Demand3.{Restored}
+use Rattle.table.specs.declared.answers.Refusal.{Refusal}
 
 -- ---- the list of calls: five words a call, its operation, three arguments and a flag
 
 -- an operation that is not known is a check
-abbrev pub call_or_check : Operation → Call
-call_or_check (Known call) = call
-call_or_check Unknown = Check
+abbrev pub call_or_check : Option Call → Call
+call_or_check (Some call) = call
+call_or_check None = Check
 
 abbrev pub call_count : List ℕ → ℕ
 call_count words = length words / 5
@@ -66,13 +61,13 @@ put_to g n words (suc k) t = set (put_to g n words k t) (node_word_at g n k) (ge
 unfoldable pub hit_node : Geometry → ℕ → List ℕ → List ℕ → List ℕ
 hit_node g n words t = cond (ltb n g.nodes) (put_to g n words (min (length words) (node_words g)) t) t
 
-unfoldable pub hit_sized : Checked → ℕ → List ℕ → List ℕ → List ℕ
-hit_sized (Failed r) n words t = t
-hit_sized (Passed g) n words t = hit_node g n words t
+unfoldable pub hit_sized : Result Geometry Refusal → ℕ → List ℕ → List ℕ → List ℕ
+hit_sized (Err r) n words t = t
+hit_sized (Ok g) n words t = hit_node g n words t
 
-unfoldable pub hit_by : Lost → List ℕ → List ℕ → List ℕ
-hit_by Nobody words t = t
-hit_by (Node n) words t = hit_sized (sizes_of t) n words t
+unfoldable pub hit_by : Option ℕ → List ℕ → List ℕ → List ℕ
+hit_by None words t = t
+hit_by (Some n) words t = hit_sized (sizes_of t) n words t
 
 -- ---- the recoveries, broken off at the given limits: each gets the same scratch
 
@@ -81,7 +76,7 @@ attempts_at scratch enough [] = []
 attempts_at scratch enough (limit ∷ limits) = record { limit = limit; scratch = scratch; enough = enough } ∷ attempts_at scratch enough limits
 
 -- any scratch
-abbrev pub broken_at : Lost → ℕ → List ℕ → List ℕ → List ℕ
+abbrev pub broken_at : Option ℕ → ℕ → List ℕ → List ℕ → List ℕ
 broken_at lost scratch limits t = broken_off lost (attempts_at {least = 0} scratch (omega arith) limits) t
 
 -- ---- the scratch: "Every call's contract gives its answer and each word of table and scratch"
@@ -92,13 +87,13 @@ scratch_run t [] s = s
 scratch_run t (x ∷ xs) s = scratch_run (table_by t x) xs (scratch_by x.call (plan_at t x) s)
 
 -- after recoveries that are broken off: "answer, value and scratch are the whole call's"
-unfoldable pub scratch_broken : {least : ℕ} → Lost → List (Attempt least) → List ℕ → List ℕ → List ℕ
+unfoldable pub scratch_broken : {least : ℕ} → Option ℕ → List (Attempt least) → List ℕ → List ℕ → List ℕ
 scratch_broken lost [] t s = s
 scratch_broken lost (a ∷ rest) t s =
     let plan = recover_of t lost a.scratch in
     scratch_broken lost rest (table_of plan a.limit t) (scratch_after plan s)
 
-abbrev pub scratch_broken_at : Lost → ℕ → List ℕ → List ℕ → List ℕ → List ℕ
+abbrev pub scratch_broken_at : Option ℕ → ℕ → List ℕ → List ℕ → List ℕ → List ℕ
 scratch_broken_at lost scratch limits t s = scratch_broken lost (attempts_at {least = 0} scratch (omega arith) limits) t s
 
 -- ---- the rehearsal
@@ -111,7 +106,7 @@ pub record Script : Type 0 where
   pub call : Call
   pub limit : ℕ
   -- the node that is hit, and that every recovery names, or none; and its words then
-  pub lost : Lost
+  pub lost : Option ℕ
   pub words : List ℕ
   -- the limits of the recoveries that are broken off
   pub limits : List ℕ

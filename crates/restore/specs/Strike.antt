@@ -1,11 +1,9 @@
 -- A strike: "the cut call at any limit; then the hit node's mark and entries hold anything; then recoveries at any limits, none or many; then a whole one".
-use Rattle.std.specs.Prelude.{ℕ, ◌+◌, ◌≤◌, ◌≡◌, Bool, true, false, cond, ◌&&◌, ◌||◌, List, [], ◌∷◌, eqb, leb, ltb, length, get_or}
+use Rattle.std.specs.Prelude.{ℕ, ◌+◌, ◌≤◌, ◌≡◌, Bool, true, false, cond, ◌&&◌, ◌||◌, List, [], ◌∷◌, eqb, leb, ltb, length, get_or, None, Option, Some}
 use Rattle.table.specs.declared.geometry.Geometry.{Geometry}
 use Rattle.table.specs.Geometry.{mark_at, entry_at}
 use Rattle.table.specs.View.{View, view, live}
 use Rattle.table.specs.Answers.{Plan, table_of}
-use Rattle.survivors.specs.declared.lost.Lost.{Lost}
-use Rattle.survivors.specs.declared.lost.Lost.TheVariants.{Nobody, Node}
 use Rattle.restore.specs.declared.call.Call.{Call}
 use Rattle.restore.specs.declared.call.Call.TheVariants.{Format, Check, Stretch, Read, Write, Evict, Open, Create, Commit, Abandon, Recover}
 use Rattle.survivors.specs.Survivors.{survivors, carries, too_few}
@@ -53,9 +51,9 @@ cut_table t c = table_of (plan_at t c.next) c.limit t
 -- ---- the hit: "the words of whichever one live node, or of none, become anything"
 
 -- "a live node, or none"
-abbrev pub live_or_none : View → Lost → Bool
-live_or_none v Nobody = true
-live_or_none v (Node n) = live v n
+abbrev pub live_or_none : View → Option ℕ → Bool
+live_or_none v None = true
+live_or_none v (Some n) = live v n
 
 -- word i of a table is one of the words of the node's entries
 abbrev pub of_entries : Geometry → ℕ → ℕ → Bool
@@ -65,12 +63,12 @@ of_entries g n i = leb (entry_at g n 0) i && ltb i (entry_at g (n + 1) 0)
 abbrev pub of_node : Geometry → ℕ → ℕ → Bool
 of_node g n i = eqb i (mark_at n) || of_entries g n i
 
-abbrev pub of_lost : Geometry → Lost → ℕ → Bool
-of_lost g Nobody i = false
-of_lost g (Node n) i = of_node g n i
+abbrev pub of_lost : Geometry → Option ℕ → ℕ → Bool
+of_lost g None i = false
+of_lost g (Some n) i = of_node g n i
 
 -- every other word stays, past the table's words too
-pub record Hit (g : Geometry) (lost : Lost) (t t' : List ℕ) : Type 0 where
+pub record Hit (g : Geometry) (lost : Option ℕ) (t t' : List ℕ) : Type 0 where
   pub one : live_or_none (view g t) lost ≡ true
   pub size : length t' ≡ length t
   pub rest : (i : ℕ) → of_lost g lost i ≡ false → get_or t' i 0 ≡ get_or t i 0
@@ -83,7 +81,7 @@ pub record Attempt (least : ℕ) : Type 0 where
   pub scratch : ℕ
   pub enough : least ≤ scratch
 
-unfoldable pub broken_off : {least : ℕ} → Lost → List (Attempt least) → List ℕ → List ℕ
+unfoldable pub broken_off : {least : ℕ} → Option ℕ → List (Attempt least) → List ℕ → List ℕ
 broken_off lost [] t = t
 broken_off lost (a ∷ rest) t = broken_off lost rest (table_of (recover_of t lost a.scratch) a.limit t)
 
@@ -92,7 +90,7 @@ broken_off lost (a ∷ rest) t = broken_off lost rest (table_of (recover_of t lo
 pub record Strike (t : List ℕ) : Type 0 where
   pub cut : Cut
   -- the node that is hit, and that every recovery names; or none
-  pub lost : Lost
+  pub lost : Option ℕ
   -- the table after the hit
   pub struck : List ℕ
   pub hit : Hit (geometry_in t) lost (cut_table t cut) struck

@@ -2,7 +2,6 @@
 ghost use Rattle.restore.specs.Call.{CarriedOut};
 
 use homes::places::Place;
-use survivors::lost::Lost;
 use table::answers::Answer;
 
 // A limit that no list of stores reaches. It is a constant, for tables that nobody sees between two instructions: those
@@ -21,7 +20,7 @@ pub enum Call {
     Create,
     Commit,
     Abandon,
-    Recover { lost: Lost },
+    Recover { lost: Option<u64> },
 }
 
 // Carries a call out on a lent table, in at most `limit` stores. Only Recover uses the scratch.

@@ -3,6 +3,7 @@ ghost use Rattle.std.specs.Prelude.{◌≡◌};
 ghost use Rattle.restore.specs.Operations.{call_by};
 
 use crate::call::Call;
+use homes::places::Place;
 
 pub const FORMAT: u64 = 0;
 
@@ -26,43 +27,36 @@ pub const CHECK: u64 = 16;
 
 pub const STRETCH: u64 = 17;
 
-// What a number names: a call, or none.
-#[derive(Clone, Copy)]
-pub enum Operation {
-    Known(Call),
-    Unknown,
-}
-
 // The call of an operation, three arguments and a flag: the place of an Evict, or that a Recover has no lost node.
-pub fn call_by(operation: u64, x: u64, y: u64, z: u64, flag: u64) -> Operation
+pub fn call_by(operation: u64, x: u64, y: u64, z: u64, flag: u64) -> Option<Call>
     ensures { result ≡ call_by operation x y z flag }
 {
-    let place = homes::places::place_by(flag);
+    let place = Place::from(flag);
     let lost = survivors::lost::lost_by(flag, x);
     match operation {
-        FORMAT => Operation::Known(Call::Format {
+        FORMAT => Some(Call::Format {
             nodes: x,
             items: y,
             frames: z,
         }),
-        READ => Operation::Known(Call::Read { node: x, item: y }),
-        WRITE => Operation::Known(Call::Write {
+        READ => Some(Call::Read { node: x, item: y }),
+        WRITE => Some(Call::Write {
             node: x,
             item: y,
             value: z,
         }),
-        EVICT => Operation::Known(Call::Evict {
+        EVICT => Some(Call::Evict {
             node: x,
             item: y,
             place,
         }),
-        OPEN => Operation::Known(Call::Open),
-        CREATE => Operation::Known(Call::Create),
-        COMMIT => Operation::Known(Call::Commit),
-        ABANDON => Operation::Known(Call::Abandon),
-        RECOVER => Operation::Known(Call::Recover { lost }),
-        CHECK => Operation::Known(Call::Check),
-        STRETCH => Operation::Known(Call::Stretch { node: x }),
-        _ => Operation::Unknown,
+        OPEN => Some(Call::Open),
+        CREATE => Some(Call::Create),
+        COMMIT => Some(Call::Commit),
+        ABANDON => Some(Call::Abandon),
+        RECOVER => Some(Call::Recover { lost }),
+        CHECK => Some(Call::Check),
+        STRETCH => Some(Call::Stretch { node: x }),
+        _ => None,
     }
 }

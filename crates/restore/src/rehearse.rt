@@ -1,26 +1,13 @@
 // Demand 3 carried out: whole calls on a lent table, one call cut, a node hit, recoveries broken off, and a whole one.
 ghost use Rattle.std.specs.Prelude.{◌≡◌, ◌<◌, min, length};
-ghost use Rattle.restore.specs.Rehearsal.{call_or_check, call_at, node_word_at, node_words, put_to, hit_node, hit_by, Rehearsed};
+ghost use Rattle.restore.specs.Rehearsal.{call_at, node_word_at, node_words, put_to, hit_node, hit_by, Rehearsed};
 ghost use Rattle.restore.specs.code.Rehearsing.{RanCalls, Struck, BrokenOff};
 
 use crate::call::{Call, WHOLE};
 use crate::operations;
-use crate::operations::Operation;
-use entries::check::Checked;
-use survivors::lost::Lost;
 use table::answers::Answer;
 use table::geometry::Geometry;
 use table::stores;
-
-// The call of an operation; a check where none is known.
-fn call_or_check(operation: Operation) -> Call
-    ensures { result ≡ call_or_check operation }
-{
-    match operation {
-        Operation::Known(call) => call,
-        Operation::Unknown => Call::Check,
-    }
-}
 
 // Call i of a list of words, five a call; past the end a check.
 pub fn call_at(words: &[u64], i: usize) -> Call
@@ -34,7 +21,7 @@ pub fn call_at(words: &[u64], i: usize) -> Call
         let z = stores::word(words, at + 3);
         let flag = stores::word(words, at + 4);
         let named = operations::call_by(operation, x, y, z, flag);
-        return call_or_check(named);
+        return named.unwrap_or(Call::Check);
     }
     Call::Check
 }
@@ -44,12 +31,9 @@ fn run_calls(table: &mut [u64], calls: &[u64], scratch: &mut [u64])
     ensures { RanCalls calls.now
         table.old table.new scratch.old scratch.new }
 {
-    let count = calls.len() / 5;
-    let mut i: usize = 0;
-    while i < count {
+    for i in 0..calls.len() / 5 {
         let call = call_at(calls, i);
         crate::call::carry_out(table, call, scratch, WHOLE);
-        i += 1;
     }
 }
 
@@ -65,26 +49,15 @@ fn node_word_at(g: Geometry, node: u8, i: usize) -> usize
     first + (i - 1)
 }
 
-// The smaller of two.
-fn fewer(a: usize, b: usize) -> usize
-    ensures { result ≡ min a b }
-{
-    if a < b { a } else { b }
-}
-
 // The words of a node become the given ones, as far as both go.
 fn put_words(table: &mut [u64], g: Geometry, node: u8, words: &[u64])
     ensures { table.new ≡ put_to g node words.now (min (length words.now) (node_words g)) table.old }
 {
     let own = 1 + Geometry::ENTRY_WORDS * (g.items as usize);
-    let given = words.len();
-    let count = fewer(given, own);
-    let mut i: usize = 0;
-    while i < count {
+    for i in 0..words.len().min(own) {
         let at = node_word_at(g, node, i);
         let word = stores::word(words, i);
         stores::store(table, 1, at, word);
-        i += 1;
     }
 }
 
@@ -98,37 +71,34 @@ fn hit_node(table: &mut [u64], g: Geometry, node: u64, words: &[u64])
 }
 
 // The hit of a node, or of none.
-fn hit(table: &mut [u64], lost: Lost, words: &[u64])
+fn hit(table: &mut [u64], lost: Option<u64>, words: &[u64])
     ensures { table.new ≡ hit_by lost words.now table.old }
 {
-    match lost {
-        Lost::Nobody => {}
-        Lost::Node(node) => {
-            let sized = entries::check::sizes(table);
-            match sized {
-                Checked::Failed(_) => {}
-                Checked::Passed(g) => hit_node(table, g, node, words),
-            }
-        }
+    let Some(node) = lost else { return };
+    if let Ok(g) = entries::check::sizes(table) {
+        hit_node(table, g, node, words);
     }
 }
 
 // Recoveries that are broken off, one for each limit.
-fn break_off(table: &mut [u64], lost: Lost, limits: &[u64], scratch: &mut [u64])
+fn break_off(table: &mut [u64], lost: Option<u64>, limits: &[u64], scratch: &mut [u64])
     ensures { BrokenOff lost limits.now
         table.old table.new scratch.old scratch.new }
 {
-    let count = limits.len();
-    let mut i: usize = 0;
-    while i < count {
-        let limit = stores::word(limits, i);
-        recovery::recover::recover(table, lost, scratch, limit);
-        i += 1;
+    for limit in limits {
+        recovery::recover::recover(table, lost, scratch, *limit);
     }
 }
 
 // A call, cut at a limit, and then the hit.
-fn strike(table: &mut [u64], call: Call, limit: u64, lost: Lost, words: &[u64], scratch: &mut [u64])
+fn strike(
+    table: &mut [u64],
+    call: Call,
+    limit: u64,
+    lost: Option<u64>,
+    words: &[u64],
+    scratch: &mut [u64],
+)
     ensures { Struck call limit lost words.now
         table.old table.new scratch.old scratch.new }
 {
@@ -143,7 +113,7 @@ pub fn rehearse(
     calls: &[u64],
     call: Call,
     limit: u64,
-    lost: Lost,
+    lost: Option<u64>,
     words: &[u64],
     limits: &[u64],
     scratch: &mut [u64],

@@ -1,12 +1,10 @@
 -- The program quay: what it keeps from record to record, what a step does with it, and the whole.
-use Rattle.std.specs.Prelude.{◌≡◌, ℕ, zero, suc, ◌+◌, ◌/◌, ◌%◌, ◌^◌, Bool, false, cond, ◌&&◌, ◌||◌, List, [], ◌∷◌, ◌++◌, length, drop, replicate}
+use Rattle.std.specs.Prelude.{◌≡◌, ℕ, zero, suc, ◌+◌, ◌/◌, ◌%◌, ◌^◌, Bool, false, cond, ◌&&◌, ◌||◌, List, [], ◌∷◌, ◌++◌, length, drop, replicate, None, Option, Some}
 use Rattle.table.specs.declared.answers.Numbers.{Numbers}
 use Rattle.table.specs.Answers.{Plan, malformed_numbers, numbers_at}
 use Rattle.restore.specs.declared.call.Call.{Call}
 use Rattle.restore.specs.Call.{plan_of, accepted, scratch_by}
 use Rattle.restore.specs.Run.{is_format, store_count, whole_table}
-use Rattle.steps.specs.declared.decode.Step.{Step}
-use Rattle.steps.specs.declared.decode.Step.TheVariants.{Asked, Malformed}
 use Rattle.steps.specs.declared.serve.Progress.{Progress}
 use Rattle.steps.specs.Steps.{record_of}
 use Rattle.steps.specs.Lines.{line_bytes, BytesPut}
@@ -33,9 +31,9 @@ plan_for q call = plan_of (lent q call) (length q.scratch) call
 
 -- "answer (0 if carried out), value, stores", of the whole call; "A record that breaks this, any other operation, or a
 -- cut-off last record gives answer 18."
-abbrev pub line_numbers : Quay → Step → Numbers
-line_numbers q (Asked call) = numbers_at (plan_for q call) (store_count (plan_for q call))
-line_numbers q Malformed = malformed_numbers
+abbrev pub line_numbers : Quay → Option Call → Numbers
+line_numbers q (Some call) = numbers_at (plan_for q call) (store_count (plan_for q call))
+line_numbers q None = malformed_numbers
 
 -- the table, of which a call that is lent an empty one has no word
 abbrev pub table_after : Quay → Call → List ℕ
@@ -49,13 +47,13 @@ formatted_after q call = q.progress.formatted || (is_format call && accepted (pl
 abbrev pub counted : Progress → Bool → Progress
 counted p formatted = record { formatted = formatted; records = (p.records + 1) % 2 ^ 64 }
 
-abbrev pub quay_after : Quay → Step → Quay
-quay_after q (Asked call) =
+abbrev pub quay_after : Quay → Option Call → Quay
+quay_after q (Some call) =
     quay (table_after q call) (scratch_by call (plan_for q call) q.scratch) (counted q.progress (formatted_after q call))
-quay_after q Malformed = quay q.table q.scratch (counted q.progress q.progress.formatted)
+quay_after q None = quay q.table q.scratch (counted q.progress q.progress.formatted)
 
 -- THE CONTRACT of serving a step
-pub record StepServed (q : Quay) (step : Step) (q' : Quay) (numbers : Numbers) : Type 0 where
+pub record StepServed (q : Quay) (step : Option Call) (q' : Quay) (numbers : Numbers) : Type 0 where
   pub state : q' ≡ quay_after q step
   pub line : numbers ≡ line_numbers q step
 
@@ -66,19 +64,19 @@ abbrev pub record_count : List ℕ → ℕ
 record_count bytes = (length bytes + 15) / 16
 
 -- the steps of the first k records
-unfoldable pub steps_up_to : ℕ → List ℕ → List Step
+unfoldable pub steps_up_to : ℕ → List ℕ → List (Option Call)
 steps_up_to zero bytes = []
 steps_up_to (suc k) bytes = record_of bytes ∷ steps_up_to k (drop 16 bytes)
 
-abbrev pub steps_in : List ℕ → List Step
+abbrev pub steps_in : List ℕ → List (Option Call)
 steps_in bytes = steps_up_to (record_count bytes) bytes
 
 -- a line for each step, and what is left after the last
-unfoldable pub lines_by : Quay → List Step → List ℕ
+unfoldable pub lines_by : Quay → List (Option Call) → List ℕ
 lines_by q [] = []
 lines_by q (step ∷ steps) = line_bytes q.progress.records (line_numbers q step) ++ lines_by (quay_after q step) steps
 
-unfoldable pub quay_after_all : Quay → List Step → Quay
+unfoldable pub quay_after_all : Quay → List (Option Call) → Quay
 quay_after_all q [] = q
 quay_after_all q (step ∷ steps) = quay_after_all (quay_after q step) steps
 

@@ -1,11 +1,8 @@
 -- What the two words of a record ask for.
-use Rattle.std.specs.Prelude.{ℕ, ◌+◌, ◌*◌, ◌/◌, ◌%◌, ◌^◌, Bool, cond, ◌&&◌, ◌||◌, List, length, ◌==◌, nat_lt, slice_index}
+use Rattle.std.specs.Prelude.{ℕ, ◌+◌, ◌*◌, ◌/◌, ◌%◌, ◌^◌, Bool, cond, ◌&&◌, ◌||◌, List, length, ◌==◌, nat_lt, slice_index, None, Option}
 use Rattle.table.specs.Words.{size_form, nodes_of, items_of, frames_of}
-use Rattle.restore.specs.declared.operations.Operation.{Operation}
-use Rattle.restore.specs.declared.operations.Operation.TheVariants.{Known, Unknown}
+use Rattle.restore.specs.declared.call.Call.{Call}
 use Rattle.restore.specs.Operations.{call_by}
-use Rattle.steps.specs.declared.decode.Step.{Step}
-use Rattle.steps.specs.declared.decode.Step.TheVariants.{Asked, Malformed}
 
 -- "First word: operation 4 bits, node 4, item 8, place 1"; "Fields are packed most significant bit first"
 abbrev pub operation_of : ℕ → ℕ
@@ -35,25 +32,20 @@ unused_zero operation n b p x =
     (cond (operation == 8) (b == 0 && (x == 0 && (p == 0 || n == 0)))
     (n == 0 && (b == 0 && (p == 0 && x == 0))))))
 
--- "any other operation .. gives answer 18"
-abbrev pub step_by : Operation → Step
-step_by (Known call) = Asked call
-step_by Unknown = Malformed
-
 -- "0 format (its first word has the layout of the table's word 0, its second is zero)"
-unfoldable pub format_step : ℕ → ℕ → Step
+unfoldable pub format_step : ℕ → ℕ → Option Call
 format_step first second =
-    cond (size_form first && second == 0) (step_by (call_by 0 (nodes_of first) (items_of first) (frames_of first) 0)) Malformed
+    cond (size_form first && second == 0) (call_by 0 (nodes_of first) (items_of first) (frames_of first) 0) None
 
--- "A field not used is zero, as are the bits after the last field": else Malformed
-unfoldable pub call_step : ℕ → ℕ → Step
+-- "A field not used is zero, as are the bits after the last field"; "any other operation .. gives answer 18"
+unfoldable pub call_step : ℕ → ℕ → Option Call
 call_step first second =
     cond
     (rest_of first == 0 && unused_zero (operation_of first) (node_of first) (item_of first) (place_of first) second)
-    (step_by (call_by (operation_of first) (node_of first) (item_of first) second (place_of first)))
-    Malformed
+    (call_by (operation_of first) (node_of first) (item_of first) second (place_of first))
+    None
 
-unfoldable pub step_of : ℕ → ℕ → Step
+unfoldable pub step_of : ℕ → ℕ → Option Call
 step_of first second = cond (operation_of first == 0) (format_step first second) (call_step first second)
 
 -- ---- what the bytes of a record ask for
@@ -71,5 +63,5 @@ word_at b at =
     + slice_index b (at + 7)
 
 -- "16 bytes a record": the step of the first 16 bytes; of fewer, ".. or a cut-off last record gives answer 18"
-unfoldable pub record_of : List ℕ → Step
-record_of bytes = cond (nat_lt (length bytes) 16) Malformed (step_of (word_at bytes 0) (word_at bytes 8))
+unfoldable pub record_of : List ℕ → Option Call
+record_of bytes = cond (nat_lt (length bytes) 16) None (step_of (word_at bytes 0) (word_at bytes 8))

@@ -1,18 +1,10 @@
 // A record's two words, decoded.
 ghost use Rattle.std.specs.Prelude.{◌≡◌};
-ghost use Rattle.steps.specs.Steps.{operation_of, node_of, item_of, place_of, rest_of, unused_zero, step_by, format_step, call_step, step_of};
+ghost use Rattle.steps.specs.Steps.{operation_of, node_of, item_of, place_of, rest_of, unused_zero, format_step, call_step, step_of};
 
 use restore::call::Call;
 use restore::operations;
-use restore::operations::Operation;
 use table::words;
-
-// What a record asks for: a call, or nothing that is in form.
-#[derive(Clone, Copy)]
-pub enum Step {
-    Asked(Call),
-    Malformed,
-}
 
 fn operation_of(first: u64) -> u64
     ensures { result ≡ operation_of first }
@@ -58,32 +50,21 @@ fn unused_zero(operation: u64, node: u64, item: u64, place: u64, value: u64) -> 
     }
 }
 
-// The step of an operation.
-fn step_by(operation: Operation) -> Step
-    ensures { result ≡ step_by operation }
-{
-    match operation {
-        Operation::Known(call) => Step::Asked(call),
-        Operation::Unknown => Step::Malformed,
-    }
-}
-
 // A record of a format: its first word is laid out as the table's word 0.
-fn format_step(first: u64, second: u64) -> Step
+fn format_step(first: u64, second: u64) -> Option<Call>
     ensures { result ≡ format_step first second }
 {
     if words::size_form(first) & (second == 0) {
         let nodes = words::nodes_of(first);
         let items = words::items_of(first);
         let frames = words::frames_of(first);
-        let named = operations::call_by(operations::FORMAT, nodes, items, frames, 0);
-        return step_by(named);
+        return operations::call_by(operations::FORMAT, nodes, items, frames, 0);
     }
-    Step::Malformed
+    None
 }
 
 // A record of any other operation.
-fn call_step(first: u64, second: u64) -> Step
+fn call_step(first: u64, second: u64) -> Option<Call>
     ensures { result ≡ call_step first second }
 {
     let operation = operation_of(first);
@@ -92,14 +73,13 @@ fn call_step(first: u64, second: u64) -> Step
     let place = place_of(first);
     let unused = unused_zero(operation, node, item, place, second);
     if (rest_of(first) == 0) & unused {
-        let named = operations::call_by(operation, node, item, second, place);
-        return step_by(named);
+        return operations::call_by(operation, node, item, second, place);
     }
-    Step::Malformed
+    None
 }
 
-// What a record's two words ask for.
-pub fn decode(first: u64, second: u64) -> Step
+// What a record's two words ask for: a call, or nothing that is in form.
+pub fn decode(first: u64, second: u64) -> Option<Call>
     ensures { result ≡ step_of first second }
 {
     if operation_of(first) == operations::FORMAT {

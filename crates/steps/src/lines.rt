@@ -14,12 +14,9 @@ pub(crate) fn put(out: &mut [u8], at: usize, bytes: &[u8]) -> usize
     requires { at + length bytes.now ≤ length out.old }
     ensures { PutAt out.old at bytes.now out.new result }
 {
-    let mut i: usize = 0;
-    while i < bytes.len() {
-        out[at + i] = bytes[i];
-        i += 1;
-    }
-    at + i
+    let to = at + bytes.len();
+    out[at..to].copy_from_slice(bytes);
+    to
 }
 
 // Puts a number and the byte that ends it.

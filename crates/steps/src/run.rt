@@ -3,9 +3,9 @@ ghost use Rattle.std.specs.Prelude.{◌≡◌, ◌+◌, ◌≤◌, length, take}
 ghost use Rattle.steps.specs.Run.{quay, at_start, start as Run·start, RecordsRun};
 ghost use Rattle.steps.specs.code.RunCode.{StepRun};
 
-use crate::decode::Step;
 use crate::serve::Progress;
 use crate::{lines, records, serve};
+use restore::call::Call;
 
 // The bytes of a chunk: 64 records.
 pub const CHUNK: usize = 1024;
@@ -44,7 +44,7 @@ fn run_step(
     table: &mut [u64],
     scratch: &mut [u64],
     progress: Progress,
-    step: Step,
+    step: Option<Call>,
     out: &mut [u8],
     at: usize,
 ) -> Ran
@@ -81,29 +81,17 @@ fn run_records(
         out.old out.new result.count }
 {
     let mut progress = progress;
-    let mut to: usize = 0;
-    let mut at: usize = 0;
-    while at < bytes.len() {
-        let step = records::record(bytes, at);
+    let mut to = 0;
+    for i in 0..bytes.len().div_ceil(records::SIZE) {
+        let step = records::record(bytes, records::SIZE * i);
         let ran = run_step(table, scratch, progress, step, out, to);
         progress = ran.progress;
         to = ran.count;
-        at += records::SIZE;
     }
     Ran {
         progress,
         count: to,
     }
-}
-
-// The first bytes, or all where there are fewer.
-fn first_bytes(bytes: &[u8], count: usize) -> &[u8]
-    ensures { result.now ≡ take count bytes.now }
-{
-    if bytes.len() <= count {
-        return bytes;
-    }
-    &bytes[..count]
 }
 
 // Runs the records of a chunk's first `count` bytes, and puts their lines, of at most 84 bytes each, at the start of
@@ -122,5 +110,11 @@ pub fn run_chunk(
         (quay table.new scratch.new result.progress)
         out.old out.new result.count }
 {
-    run_records(table, scratch, progress, first_bytes(bytes, count), out)
+    run_records(
+        table,
+        scratch,
+        progress,
+        &bytes[..count.min(bytes.len())],
+        out,
+    )
 }

@@ -1,11 +1,9 @@
 // A step carried out on quay's table.
-ghost use Rattle.std.specs.Prelude.{◌≡◌};
+ghost use Rattle.std.specs.Prelude.{◌≡◌, Some};
 ghost use Rattle.restore.specs.Run.{is_format};
 ghost use Rattle.steps.specs.Run.{quay, counted as Run·counted, StepServed};
-ghost use Rattle.steps.specs.declared.decode.Step.TheVariants.{Asked};
 ghost use Rattle.steps.specs.code.ServingCode.{is_done, CarriedLent};
 
-use crate::decode::Step;
 use restore::call;
 use restore::call::{Call, WHOLE};
 use table::answers;
@@ -28,44 +26,13 @@ pub struct Served {
 fn is_format(call: Call) -> bool
     ensures { result ≡ is_format call }
 {
-    match call {
-        Call::Format {
-            nodes: _,
-            items: _,
-            frames: _,
-        } => true,
-        Call::Check => false,
-        Call::Stretch { node: _ } => false,
-        Call::Read { node: _, item: _ } => false,
-        Call::Write {
-            node: _,
-            item: _,
-            value: _,
-        } => false,
-        Call::Evict {
-            node: _,
-            item: _,
-            place: _,
-        } => false,
-        Call::Open => false,
-        Call::Create => false,
-        Call::Commit => false,
-        Call::Abandon => false,
-        Call::Recover { lost: _ } => false,
-    }
+    matches!(call, Call::Format { .. })
 }
 
 fn is_done(answer: Answer) -> bool
     ensures { result ≡ is_done answer }
 {
-    match answer {
-        Answer::Done {
-            value: _,
-            stores: _,
-        } => true,
-        Answer::NothingLeft => false,
-        Answer::Refused(_) => false,
-    }
+    matches!(answer, Answer::Done { .. })
 }
 
 // Carries out a call on the whole table, or on an empty one.
@@ -89,7 +56,7 @@ fn counted(progress: Progress, formatted: bool) -> Progress
 // Serves a call. Until a format is accepted, every call but format is lent an empty table.
 fn serve_call(table: &mut [u64], scratch: &mut [u64], progress: Progress, call: Call) -> Served
     ensures { StepServed (quay table.old scratch.old progress)
-        (Asked call)
+        (Some call)
         (quay table.new scratch.new result.progress)
         result.numbers }
 {
@@ -97,21 +64,26 @@ fn serve_call(table: &mut [u64], scratch: &mut [u64], progress: Progress, call: 
     let answer = carry_lent(table, scratch, progress.formatted | format, call);
     let done = is_done(answer);
     Served {
-        numbers: answers::numbers_of(answer),
+        numbers: Numbers::from(answer),
         progress: counted(progress, progress.formatted | (format & done)),
     }
 }
 
 // Serves a step on quay's table and scratch.
-pub fn serve(table: &mut [u64], scratch: &mut [u64], progress: Progress, step: Step) -> Served
+pub fn serve(
+    table: &mut [u64],
+    scratch: &mut [u64],
+    progress: Progress,
+    step: Option<Call>,
+) -> Served
     ensures { StepServed (quay table.old scratch.old progress)
         step
         (quay table.new scratch.new result.progress)
         result.numbers }
 {
     match step {
-        Step::Asked(asked) => serve_call(table, scratch, progress, asked),
-        Step::Malformed => Served {
+        Some(call) => serve_call(table, scratch, progress, call),
+        None => Served {
             numbers: Numbers {
                 answer: answers::MALFORMED,
                 value: 0,

@@ -1,69 +1,49 @@
 // The marks that a recovery stores last, those of the survivors.
-ghost use Rattle.std.specs.Prelude.{◌≡◌, max};
-ghost use Rattle.table.specs.Stores.{Stored};
+ghost use Rattle.std.specs.Prelude.{◌≡◌};
+ghost use Rattle.table.specs.Made.{Made, shown};
 ghost use Rattle.table.specs.View.{view, mark_to, marks_to};
 ghost use Rattle.survivors.specs.Survivors.{survivors, largest_number, closing_stores};
 
-use crate::lost::Lost;
 use crate::nodes;
 use table::geometry::Geometry;
-use table::{stores, words};
-
-// The larger of two numbers.
-fn larger(a: u32, b: u32) -> u32
-    ensures { result ≡ max a b }
-{
-    if a < b {
-        return b;
-    }
-    a
-}
+use table::stores::Stores;
+use table::words;
 
 // The largest point number of a survivor, or 0 if none is left.
-fn largest_number(table: &[u64], g: Geometry, lost: Lost) -> u32
+fn largest_number(table: &[u64], g: Geometry, lost: Option<u64>) -> u32
     ensures { result ≡ largest_number g (survivors lost (view g table.now)) }
 {
-    let nodes = g.nodes;
-    let mut largest: u32 = 0;
-    let mut node: u8 = 0;
-    while node < nodes {
-        let number = words::number_of(nodes::survivor_mark(table, g, lost, node));
-        largest = larger(largest, number);
-        node += 1;
-    }
-    largest
+    (0..g.nodes)
+        .map(|node| words::number_of(nodes::survivor_mark(table, g, lost, node)))
+        .fold(0, |a, b| a.max(b))
 }
 
 // The turn of one mark: a survivor's becomes the word.
-fn close_mark(table: &mut [u64], left: u64, g: Geometry, lost: Lost, node: u8, word: u64) -> u64
-    ensures { Stored g left (mark_to (survivors lost (view g table.old)) (λ x. word) node) table.old table.new result }
+fn close_mark(stores: &mut Stores, lost: Option<u64>, node: u8, word: u64)
+    ensures { Made stores.old (mark_to (survivors lost (shown stores.old)) (λ x. word) node) stores.new }
 {
-    let mark = nodes::survivor_mark(table, g, lost, node);
-    if mark == 0 {
-        return left;
+    let table = &mut *stores.table;
+    let mark = nodes::survivor_mark(table, stores.g, lost, node);
+    if mark != 0 {
+        stores.store_mark(node, word);
     }
-    stores::store_mark(table, left, g, node, word)
 }
 
 // Each survivor's mark, ascending, becomes the word.
-fn close_marks(table: &mut [u64], left: u64, g: Geometry, lost: Lost, word: u64) -> u64
-    ensures { Stored g left (marks_to g (survivors lost (view g table.old)) (λ x. word)) table.old table.new result }
+fn close_marks(stores: &mut Stores, lost: Option<u64>, word: u64)
+    ensures { Made stores.old (marks_to stores.old.g (survivors lost (shown stores.old)) (λ x. word)) stores.new }
 {
-    let nodes = g.nodes;
-    let mut left = left;
-    let mut node: u8 = 0;
-    while node < nodes {
-        left = close_mark(table, left, g, lost, node, word);
-        node += 1;
+    for node in 0..stores.g.nodes {
+        close_mark(stores, lost, node, word);
     }
-    left
 }
 
 // The survivors' marks, ascending: phase 0 and their largest number.
-pub fn close(table: &mut [u64], left: u64, g: Geometry, lost: Lost) -> u64
-    ensures { Stored g left (closing_stores g (survivors lost (view g table.old))) table.old table.new result }
+pub fn close(stores: &mut Stores, lost: Option<u64>)
+    ensures { Made stores.old (closing_stores stores.old.g (survivors lost (shown stores.old))) stores.new }
 {
-    let number = largest_number(table, g, lost);
+    let table = &mut *stores.table;
+    let number = largest_number(table, stores.g, lost);
     let word = words::mark_word(0, number);
-    close_marks(table, left, g, lost, word)
+    close_marks(stores, lost, word);
 }

@@ -4,13 +4,12 @@ ghost use Rattle.table.specs.View.{view};
 ghost use Rattle.survivors.specs.Survivors.{survivors};
 ghost use Rattle.survivors.specs.Direction.{committing, forward_in};
 
-use crate::lost::Lost;
 use crate::nodes;
 use table::geometry::Geometry;
 use table::words;
 
 // Whether a node survives and has phase 2.
-fn commits_at(table: &[u64], g: Geometry, lost: Lost, node: u8) -> bool
+fn commits_at(table: &[u64], g: Geometry, lost: Option<u64>, node: u8) -> bool
     ensures { result ≡ committing (survivors lost (view g table.now)) node }
 {
     let mark = nodes::survivor_mark(table, g, lost, node);
@@ -19,16 +18,8 @@ fn commits_at(table: &[u64], g: Geometry, lost: Lost, node: u8) -> bool
 }
 
 // Whether a survivor has phase 2, so that the recovery rolls forward.
-pub fn forward_in(table: &[u64], g: Geometry, lost: Lost) -> bool
+pub fn forward_in(table: &[u64], g: Geometry, lost: Option<u64>) -> bool
     ensures { result ≡ forward_in g (survivors lost (view g table.now)) }
 {
-    let nodes = g.nodes;
-    let mut any = false;
-    let mut node: u8 = 0;
-    while node < nodes {
-        let commits = commits_at(table, g, lost, node);
-        any = any | commits;
-        node += 1;
-    }
-    any
+    (0..g.nodes).any(|node| commits_at(table, g, lost, node))
 }

@@ -14,3 +14,4 @@ pub mod PassTurns
 pub mod MarksPass
 pub mod Copies
 pub mod Answers
+pub mod Made

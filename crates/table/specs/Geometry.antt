@@ -1,8 +1,6 @@
 -- Which geometries are allowed, and where the words of a table lie.
-use Rattle.std.specs.Prelude.{ℕ, ◌+◌, ◌-◌, ◌*◌, ◌<◌, ◌≡◌, Bool, cond, ◌&&◌, ◌||◌, eqb, leb}
+use Rattle.std.specs.Prelude.{ℕ, ◌+◌, ◌-◌, ◌*◌, ◌<◌, ◌≡◌, Bool, cond, ◌&&◌, ◌||◌, eqb, leb, None, Option, Some}
 use Rattle.table.specs.declared.geometry.Geometry.{Geometry}
-use Rattle.table.specs.declared.geometry.Made.{Made}
-use Rattle.table.specs.declared.geometry.Made.TheVariants.{Allowed, NotAllowed}
 
 -- "Nodes 3 to 16, items 1 to 256, frames per node 1 to 512: call them N, M, F."
 abbrev pub in_ranges : ℕ → ℕ → ℕ → Bool
@@ -16,8 +14,8 @@ four_copies n m f = eqb f (2 * m) || leb (4 * m - 1) ((n - 2) * f)
 abbrev pub allowed : ℕ → ℕ → ℕ → Bool
 allowed n m f = in_ranges n m f && four_copies n m f
 
-unfoldable pub geometry_of : ℕ → ℕ → ℕ → Made
-geometry_of n m f = cond (allowed n m f) (Allowed (record { nodes = n; items = m; frames = f })) NotAllowed
+unfoldable pub geometry_of : ℕ → ℕ → ℕ → Option Geometry
+geometry_of n m f = cond (allowed n m f) (Some (record { nodes = n; items = m; frames = f })) None
 
 -- the words of an entry: "state word, current value, kept value"
 abbrev pub entry_words : ℕ

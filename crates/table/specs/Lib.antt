@@ -4,6 +4,7 @@ pub mod Geometry
 pub mod Changes
 pub mod Stores
 pub mod View
+pub mod Made
 pub mod Copies
 pub mod Answers
 pub mod code

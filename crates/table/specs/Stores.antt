@@ -1,5 +1,5 @@
 -- A store writes one word of the table. A call is described by the list of its stores, and cut by a limit.
-use Rattle.std.specs.Prelude.{ℕ, zero, suc, ◌+◌, ◌-◌, ◌≡◌, List, [], ◌∷◌, ◌++◌, map, length, set}
+use Rattle.std.specs.Prelude.{ℕ, zero, suc, ◌+◌, ◌-◌, ◌≡◌, List, [], ◌∷◌, ◌++◌, length, set}
 use Rattle.table.specs.declared.geometry.Geometry.{Geometry}
 use Rattle.table.specs.Words.{state_word, size_word}
 use Rattle.table.specs.Geometry.{mark_at, entry_at}
@@ -55,10 +55,6 @@ pub record Stored (g : Geometry) (left : ℕ) (ss : List Store) (t t' : List ℕ
   pub table : t' ≡ after g left ss t
   pub rest : left' ≡ left - length ss
   pub size : length t' ≡ length t
-
--- the same for the changes of one entry
-abbrev pub StoredIn : Geometry → ℕ → ℕ → ℕ → List Change → List ℕ → List ℕ → ℕ → Type 0
-StoredIn g left n b cs t t' left' = Stored g left (map (entry_store n b) cs) t t' left'
 
 -- one word, as `store` writes it
 unfoldable pub written : ℕ → ℕ → ℕ → List ℕ → List ℕ

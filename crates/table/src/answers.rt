@@ -2,26 +2,26 @@
 ghost use Rattle.std.specs.Prelude.{◌≡◌};
 ghost use Rattle.table.specs.Answers.{refusal_number, numbers_of};
 
-// Why a call is turned down; `refusal_number` in specs/Answers.antt gives document 01's numbers.
+// Why a call is turned down, each with its number; so `refusal_number` in specs/Answers.antt.
 #[derive(Clone, Copy)]
 pub enum Refusal {
-    EmptyOrShort,
-    NotSound,
-    NoGeometry,
-    NoNode,
-    NoItem,
-    DeadNode,
-    CheckpointOpen,
-    NoCheckpoint,
-    NoFrame,
-    PlaceInvalid,
-    NoHome,
-    NotCreated,
-    LastNumber,
-    TooFewNodes,
-    NoRecoveryCopy,
-    ShortScratch,
-    TooManyFrames,
+    EmptyOrShort = 1,
+    NotSound = 2,
+    NoGeometry = 3,
+    NoNode = 4,
+    NoItem = 5,
+    DeadNode = 6,
+    CheckpointOpen = 7,
+    NoCheckpoint = 8,
+    NoFrame = 9,
+    PlaceInvalid = 10,
+    NoHome = 11,
+    NotCreated = 12,
+    LastNumber = 13,
+    TooFewNodes = 14,
+    NoRecoveryCopy = 15,
+    ShortScratch = 16,
+    TooManyFrames = 20,
 }
 
 // Carried out, with document 01's value and count of stores; document 01's 17, nothing left to create; or turned down.
@@ -44,49 +44,35 @@ pub struct Numbers {
 pub const MALFORMED: u64 = 18;
 
 // The number of a refusal.
-fn refusal_number(refusal: Refusal) -> u64
-    ensures { result ≡ refusal_number refusal }
-{
-    match refusal {
-        Refusal::EmptyOrShort => 1,
-        Refusal::NotSound => 2,
-        Refusal::NoGeometry => 3,
-        Refusal::NoNode => 4,
-        Refusal::NoItem => 5,
-        Refusal::DeadNode => 6,
-        Refusal::CheckpointOpen => 7,
-        Refusal::NoCheckpoint => 8,
-        Refusal::NoFrame => 9,
-        Refusal::PlaceInvalid => 10,
-        Refusal::NoHome => 11,
-        Refusal::NotCreated => 12,
-        Refusal::LastNumber => 13,
-        Refusal::TooFewNodes => 14,
-        Refusal::NoRecoveryCopy => 15,
-        Refusal::ShortScratch => 16,
-        Refusal::TooManyFrames => 20,
+impl From<Refusal> for u64 {
+    ghost from_gives = { λ refusal n. n ≡ refusal_number refusal };
+
+    fn from(refusal: Refusal) -> u64 {
+        refusal as u64
     }
 }
 
 // An answer in document 01's numbers.
-pub fn numbers_of(a: Answer) -> Numbers
-    ensures { result ≡ numbers_of a }
-{
-    match a {
-        Answer::Done { value, stores } => Numbers {
-            answer: 0,
-            value,
-            stores,
-        },
-        Answer::NothingLeft => Numbers {
-            answer: 17,
-            value: 0,
-            stores: 0,
-        },
-        Answer::Refused(refusal) => Numbers {
-            answer: refusal_number(refusal),
-            value: 0,
-            stores: 0,
-        },
+impl From<Answer> for Numbers {
+    ghost from_gives = { λ answer numbers. numbers ≡ numbers_of answer };
+
+    fn from(answer: Answer) -> Numbers {
+        match answer {
+            Answer::Done { value, stores } => Numbers {
+                answer: 0,
+                value,
+                stores,
+            },
+            Answer::NothingLeft => Numbers {
+                answer: 17,
+                value: 0,
+                stores: 0,
+            },
+            Answer::Refused(refusal) => Numbers {
+                answer: u64::from(refusal),
+                value: 0,
+                stores: 0,
+            },
+        }
     }
 }

@@ -4,6 +4,7 @@ ghost use Rattle.table.specs.Changes.{changes, change_of, column_of, checkpoint_
 
 use crate::words;
 
+// What happens to a copy: the columns of the table below, in their order.
 #[derive(Clone, Copy)]
 pub enum Event {
     OtherReads,
@@ -41,53 +42,27 @@ pub const CHANGES: [[u8; 6]; 8] = [
     [NEVER, NEVER, 5, 1, 0, 5],
 ];
 
-// The row of a state code. Its indices are constants: with one that varies the compiler builds the table at each use.
-fn row(state: u8) -> [u8; 6]
-    ensures { result ≡ get_or changes (state % 8) [] }
+// The column of an event.
+fn column(event: Event) -> usize
+    ensures { result ≡ column_of event }
 {
-    match state % 8 {
-        0 => CHANGES[0],
-        1 => CHANGES[1],
-        2 => CHANGES[2],
-        3 => CHANGES[3],
-        4 => CHANGES[4],
-        5 => CHANGES[5],
-        6 => CHANGES[6],
-        _ => CHANGES[7],
-    }
-}
-
-// The column of an event in a row.
-fn column(row: [u8; 6], event: Event) -> u8
-    ensures { result ≡ get_or row (column_of event) 0 }
-{
-    match event {
-        Event::OtherReads => row[0],
-        Event::OtherWrites => row[1],
-        Event::Commit => row[2],
-        Event::Abandon => row[3],
-        Event::RollBack => row[4],
-        Event::RollForward => row[5],
-    }
+    event as usize
 }
 
 // What a current place becomes by an event.
 pub fn change(state: u8, event: Event) -> u8
     ensures { result ≡ change_of state event }
 {
-    let row = row(state);
-    column(row, event)
+    CHANGES[(state % 8) as usize][column(event)]
 }
 
 // The number of a Shared-CK copy, or 0.
 pub fn checkpoint_of(current: u8) -> u8
     ensures { result ≡ checkpoint_of current }
 {
-    if current == words::SHARED_CK1 {
-        return 1;
+    match current {
+        words::SHARED_CK1 => 1,
+        words::SHARED_CK2 => 2,
+        _ => 0,
     }
-    if current == words::SHARED_CK2 {
-        return 2;
-    }
-    0
 }

@@ -10,13 +10,6 @@ pub struct Geometry {
     pub frames: u16,
 }
 
-// A geometry, or that the numbers give none.
-#[derive(Clone, Copy)]
-pub enum Made {
-    Allowed(Geometry),
-    NotAllowed,
-}
-
 impl Geometry {
     pub const NODES_MIN: u64 = 3;
 
@@ -34,7 +27,7 @@ impl Geometry {
     pub const ENTRY_WORDS: usize = 3;
 
     // The geometry of these numbers, if it is allowed: in the ranges, and with frames for four copies of an item.
-    pub fn new(nodes: u64, items: u64, frames: u64) -> Made
+    pub fn new(nodes: u64, items: u64, frames: u64) -> Option<Geometry>
         ensures { result ≡ geometry_of nodes items frames }
     {
         let ranges = (Geometry::NODES_MIN <= nodes)
@@ -43,13 +36,13 @@ impl Geometry {
                     & ((items <= Geometry::ITEMS_MAX)
                         & ((Geometry::FRAMES_MIN <= frames) & (frames <= Geometry::FRAMES_MAX)))));
         if !ranges {
-            return Made::NotAllowed;
+            return None;
         }
         let reserved = (frames == 2 * items) | (4 * items - 1 <= (nodes - 2) * frames);
         if !reserved {
-            return Made::NotAllowed;
+            return None;
         }
-        Made::Allowed(Geometry {
+        Some(Geometry {
             nodes: nodes as u8,
             items: items as u16,
             frames: frames as u16,

@@ -51,11 +51,7 @@ pub(crate) fn same_length(
     told: Numbers,
 ) -> io::Result<bool> {
     let answer = same_number(rt, vector, "length's answer", told.answer, v.answer)?;
-    let length = if told.value < v.limit {
-        same_number(rt, vector, "length", told.value, v.stores)?
-    } else {
-        same_number(rt, vector, "length", v.limit, v.stores)?
-    };
+    let length = same_number(rt, vector, "length", told.value.min(v.limit), v.stores)?;
     Ok(answer & length)
 }
 
@@ -84,14 +80,8 @@ pub(crate) fn same_words(
     expected: &[u64],
 ) -> io::Result<bool> {
     let mut all = true;
-    let mut at: usize = 0;
-    while at < got.len() {
-        if expected.len() <= at {
-            return Ok(false);
-        }
-        let equal = same_word(rt, vector, what, at, got[at], expected[at])?;
-        all = all & equal;
-        at += 1;
+    for (at, (got, expected)) in got.iter().zip(expected).enumerate() {
+        all &= same_word(rt, vector, what, at, *got, *expected)?;
     }
     Ok(all)
 }

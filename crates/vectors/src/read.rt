@@ -1,11 +1,13 @@
 // The words of the file, big-endian, and the vectors that they make.
-ghost use Rattle.std.specs.Prelude.{◌+◌, ◌<◌, ◌≤◌, length};
-
+use std::alloc::Global;
 use std::io;
 use std::io::{ErrorKind, Read};
 
 // The most words that are read at a time.
 const MOST: usize = 8000;
+
+// The words of a vector's header.
+const HEADER: usize = 12;
 
 // A vector's header. The table's words follow, then the places and the words of those that the call changes, then the
 // scratch before and after.
@@ -25,78 +27,39 @@ pub(crate) struct Vector {
     pub stores: u64,
 }
 
-fn wide(x: u8) -> u64
-    ensures { result < 256 }
-{
-    x as u64
+// Table and scratch that a call is given, and what it is to leave of them.
+#[derive(Drop)]
+pub(crate) struct Given {
+    pub table: Vec<u64>,
+    pub expected: Vec<u64>,
+    pub scratch: Vec<u64>,
+    pub left: Vec<u64>,
 }
 
-// The word at a place.
-fn word_at(bytes: &[u8], at: usize) -> u64
-    requires { at + 8 ≤ length bytes.now }
-{
-    wide(bytes[at]) * 0x100_0000_0000_0000
-        + wide(bytes[at + 1]) * 0x1_0000_0000_0000
-        + wide(bytes[at + 2]) * 0x100_0000_0000
-        + wide(bytes[at + 3]) * 0x1_0000_0000
-        + wide(bytes[at + 4]) * 0x100_0000
-        + wide(bytes[at + 5]) * 0x1_0000
-        + wide(bytes[at + 6]) * 0x100
-        + wide(bytes[at + 7])
-}
-
-// The words that bytes make, as many as both have.
-fn decode(bytes: &[u8], words: &mut [u64]) {
-    let mut at: usize = 0;
-    while at < words.len() {
-        if bytes.len() / 8 <= at {
-            return;
-        }
-        words[at] = word_at(bytes, 8 * at);
-        at += 1;
+// The words that bytes make.
+fn words_of(alloc: Global, bytes: &[u8]) -> io::Result<Vec<u64>> {
+    let mut words = Vec::new(alloc);
+    for word in bytes.as_chunks::<8>().0 {
+        words.push(u64::from_be_bytes(*word))?;
     }
+    Ok(words)
 }
 
-// The first bytes, or all where there are fewer.
-fn first_bytes(bytes: &mut [u8], count: usize) -> &mut [u8] {
-    if bytes.len() <= count {
-        return bytes;
+// So many words of the file; None where it has fewer, or they are over 8,000.
+fn read_words<R: Read>(alloc: Global, file: &mut R, count: usize) -> io::Result<Option<Vec<u64>>> {
+    if MOST < count {
+        return Ok(None);
     }
-    &mut bytes[..count]
-}
-
-// The first words, or all where there are fewer.
-pub(crate) fn first_words(words: &mut [u64], count: usize) -> &mut [u64] {
-    if words.len() <= count {
-        return words;
-    }
-    &mut words[..count]
-}
-
-// Fills the bytes from the file, and the words from the bytes; whether the file had as many.
-fn read_through<R: Read>(file: &mut R, bytes: &mut [u8], words: &mut [u64]) -> io::Result<bool> {
-    match file.read_exact(bytes) {
-        Ok(()) => {
-            decode(bytes, words);
-            Ok(true)
-        }
-        Err(e) if e.kind() == ErrorKind::UnexpectedEof => Ok(false),
+    let mut bytes = vec![in alloc; 0u8; 8 * count]?;
+    match file.read_exact(&mut bytes) {
+        Ok(()) => Ok(Some(words_of(alloc, &bytes)?)),
+        Err(e) if e.kind() == ErrorKind::UnexpectedEof => Ok(None),
         Err(e) => Err(e),
     }
 }
 
-// Fills the words from the file; whether it had as many, and they are at most 8,000.
-pub(crate) fn read_words<R: Read>(file: &mut R, words: &mut [u64]) -> io::Result<bool> {
-    let count = words.len();
-    if MOST < count {
-        return Ok(false);
-    }
-    let mut buffer = [0u8; 64000];
-    read_through(file, first_bytes(&mut buffer, 8 * count), words)
-}
-
 // A vector's header from its words.
-pub(crate) fn vector_of(header: &[u64; 12]) -> Vector {
+fn vector_of(header: &[u64; HEADER]) -> Vector {
     Vector {
         operation: header[0],
         first: header[1],
@@ -113,80 +76,69 @@ pub(crate) fn vector_of(header: &[u64; 12]) -> Vector {
     }
 }
 
-// Copies words, as many as both have.
-fn copy(from: &[u64], to: &mut [u64]) {
-    let mut at: usize = 0;
-    while at < to.len() {
-        if from.len() <= at {
-            return;
-        }
-        to[at] = from[at];
-        at += 1;
-    }
+// The next vector's header; None where the file has no whole one.
+pub(crate) fn read_header<R: Read>(alloc: Global, file: &mut R) -> io::Result<Option<Vector>> {
+    let Some(header) = read_words(alloc, file, HEADER)? else {
+        return Ok(None);
+    };
+    Ok(header.first_chunk().map(vector_of))
 }
 
-// Puts each word in its place; whether there is a word for each place, and each place is there.
+// Puts each word in its place; whether each place is there.
 fn put_words(words: &mut [u64], places: &[u64], news: &[u64]) -> bool {
-    let mut at: usize = 0;
-    while at < places.len() {
-        if news.len() <= at {
-            return false;
+    for (place, new) in places.iter().zip(news) {
+        match words.get_mut(*place as usize) {
+            Some(word) => *word = *new,
+            None => return false,
         }
-        let place = places[at] as usize;
-        if words.len() <= place {
-            return false;
-        }
-        words[place] = news[at];
-        at += 1;
     }
     true
 }
 
-// Reads places and their words, and puts these there; whether all is there.
-fn read_places<R: Read>(
+// The table that a call is to leave: the given one, but for as many changed words as the file tells. None where they
+// are not all there, or have no place.
+fn read_expected<R: Read>(
+    alloc: Global,
     file: &mut R,
-    words: &mut [u64],
-    places: &mut [u64],
-    news: &mut [u64],
-) -> io::Result<bool> {
-    let placed = read_words(file, places)?;
-    let read = read_words(file, news)?;
-    let put = put_words(words, places, news);
-    Ok(placed & read & put)
-}
-
-// Reads as many changed words, at most 8,000.
-fn read_changes<R: Read>(file: &mut R, words: &mut [u64], count: usize) -> io::Result<bool> {
-    let mut places = [0u64; 8000];
-    let mut news = [0u64; 8000];
-    read_places(
-        file,
-        words,
-        first_words(&mut places, count),
-        first_words(&mut news, count),
-    )
-}
-
-// Reads the table that a call is given, and makes the one that it is to leave; whether all their words are there.
-pub(crate) fn read_tables<R: Read>(
-    file: &mut R,
-    given: &mut [u64],
-    expected: &mut [u64],
+    given: &[u64],
     changes: usize,
-) -> io::Result<bool> {
-    let read = read_words(file, given)?;
-    copy(given, expected);
-    let changed = read_changes(file, expected, changes)?;
-    Ok(read & changed)
+) -> io::Result<Option<Vec<u64>>> {
+    let Some(places) = read_words(alloc, file, changes)? else {
+        return Ok(None);
+    };
+    let Some(news) = read_words(alloc, file, changes)? else {
+        return Ok(None);
+    };
+    let mut expected = given.to_vec(alloc)?;
+    if put_words(&mut expected, &places, &news) {
+        return Ok(Some(expected));
+    }
+    Ok(None)
 }
 
-// Reads the scratch before and after a call.
-pub(crate) fn read_scratch<R: Read>(
+// What the file tells of a vector; None where it is not all there.
+pub(crate) fn read_given<R: Read>(
+    alloc: Global,
     file: &mut R,
-    given: &mut [u64],
-    expected: &mut [u64],
-) -> io::Result<bool> {
-    let before = read_words(file, given)?;
-    let after = read_words(file, expected)?;
-    Ok(before & after)
+    v: Vector,
+) -> io::Result<Option<Given>> {
+    let room = v.room as usize;
+    let Some(table) = read_words(alloc, file, v.words as usize)? else {
+        return Ok(None);
+    };
+    let Some(expected) = read_expected(alloc, file, &table, v.changes as usize)? else {
+        return Ok(None);
+    };
+    let Some(scratch) = read_words(alloc, file, room)? else {
+        return Ok(None);
+    };
+    let Some(left) = read_words(alloc, file, room)? else {
+        return Ok(None);
+    };
+    Ok(Some(Given {
+        table,
+        expected,
+        scratch,
+        left,
+    }))
 }

@@ -1,13 +1,15 @@
 // The vectors of a file, one after the other.
 ghost use Rattle.std.specs.Prelude.{◌+◌, ◌<◌, ◌≤◌, ◌^◌, ◌≡◌, IfOk};
+ghost use Rattle.vectors.specs.code.Counts.{tally_of};
 
-use crate::read::Vector;
+use crate::read::{Given, Vector};
 use crate::{compare, read};
 use restore::operations;
-use restore::operations::Operation;
+use std::alloc::Global;
 use std::io;
 use std::io::Read;
-use table::answers;
+use std::ops::ControlFlow;
+use table::answers::Numbers;
 
 // The most words of a table.
 const WORDS: u64 = 8000;
@@ -37,61 +39,32 @@ enum Outcome {
 fn as_told(rt: &impl Print, number: u64, v: Vector, table: &[u64]) -> io::Result<bool> {
     if v.operation == operations::COMMIT {
         let told = checkpoints::length::commit_length(table);
-        return compare::same_length(rt, number, v, answers::numbers_of(told));
+        return compare::same_length(rt, number, v, Numbers::from(told));
     }
     Ok(true)
 }
 
 // Runs a vector's call, and compares.
-fn run_call(
-    rt: &impl Print,
-    number: u64,
-    v: Vector,
-    table: &mut [u64],
-    expected: &[u64],
-    scratch: &mut [u64],
-    left: &[u64],
-) -> io::Result<Outcome> {
+fn run_call(rt: &impl Print, number: u64, v: Vector, mut given: Given) -> io::Result<Outcome> {
     let named = operations::call_by(v.operation, v.first, v.second, v.third, v.choice);
-    match named {
-        Operation::Unknown => Ok(Outcome::Malformed),
-        Operation::Known(call) => {
-            let told = as_told(rt, number, v, table)?;
-            let answer = restore::call::carry_out(table, call, scratch, v.limit);
-            let answered = compare::same_answer(rt, number, v, answers::numbers_of(answer))?;
-            let stored = compare::same_words(rt, number, "table", table, expected)?;
-            let cleared = compare::same_words(rt, number, "scratch", scratch, left)?;
-            if told & answered & stored & cleared {
-                return Ok(Outcome::Same);
-            }
-            Ok(Outcome::Differs)
-        }
+    let Some(call) = named else {
+        return Ok(Outcome::Malformed);
+    };
+    let told = as_told(rt, number, v, &given.table)?;
+    let answer = restore::call::carry_out(&mut given.table, call, &mut given.scratch, v.limit);
+    let answered = compare::same_answer(rt, number, v, Numbers::from(answer))?;
+    let stored = compare::same_words(rt, number, "table", &given.table, &given.expected)?;
+    let cleared = compare::same_words(rt, number, "scratch", &given.scratch, &given.left)?;
+    if told & answered & stored & cleared {
+        return Ok(Outcome::Same);
     }
+    Ok(Outcome::Differs)
 }
 
-// Reads the words of a vector, and runs it.
-fn run_on<R: Read>(
-    rt: &impl Print,
-    file: &mut R,
-    number: u64,
-    v: Vector,
-    table: &mut [u64],
-    expected: &mut [u64],
-    scratch: &mut [u64],
-    left: &mut [u64],
-) -> io::Result<Outcome> {
-    let changes = v.changes as usize;
-    let tables = read::read_tables(file, table, expected, changes)?;
-    let scratches = read::read_scratch(file, scratch, left)?;
-    if tables & scratches {
-        return run_call(rt, number, v, table, expected, scratch, left);
-    }
-    Ok(Outcome::Malformed)
-}
-
-// Runs a vector on a table and a scratch of its sizes, where they are not over the most.
+// Reads the words of a vector and runs it, where its table and its scratch are not over the most.
 fn run_vector<R: Read>(
     rt: &impl Print,
+    alloc: Global,
     file: &mut R,
     number: u64,
     v: Vector,
@@ -99,75 +72,41 @@ fn run_vector<R: Read>(
     if (WORDS < v.words) | (WORDS < v.changes) | (ROOM < v.room) {
         return Ok(Outcome::Malformed);
     }
-    let words = v.words as usize;
-    let room = v.room as usize;
-    let mut table = [0u64; 8000];
-    let mut expected = [0u64; 8000];
-    let mut scratch = [0u64; 300];
-    let mut left = [0u64; 300];
-    run_on(
-        rt,
-        file,
-        number,
-        v,
-        read::first_words(&mut table, words),
-        read::first_words(&mut expected, words),
-        read::first_words(&mut scratch, room),
-        read::first_words(&mut left, room),
-    )
+    match read::read_given(alloc, file, v)? {
+        None => Ok(Outcome::Malformed),
+        Some(given) => run_call(rt, number, v, given),
+    }
 }
 
-// How far a run has come, and whether another vector may follow.
-#[derive(Clone, Copy)]
-struct Progress {
-    tally: Tally,
-    more: bool,
-}
-
-// The progress after a vector: one that differs is counted, a malformed one is the last.
-fn counted(tally: Tally, outcome: Outcome) -> Progress
+// One vector later: one that differs is counted, and so is a malformed one, which is the last.
+fn counted(tally: Tally, outcome: Outcome) -> ControlFlow<Tally, Tally>
     requires { (tally.vectors < 2 ^ 62) × (tally.different < 2 ^ 62) }
-    ensures { (result.tally.vectors ≡ tally.vectors + 1) × (result.tally.different ≤ tally.different + 1) }
+    ensures { ((tally_of result).vectors ≡ tally.vectors + 1) × ((tally_of result).different ≤ tally.different + 1) }
 {
     let vectors = tally.vectors + 1;
+    let different = tally.different + 1;
     match outcome {
-        Outcome::Same => Progress {
-            tally: Tally {
-                vectors,
-                different: tally.different,
-            },
-            more: true,
-        },
-        Outcome::Differs => Progress {
-            tally: Tally {
-                vectors,
-                different: tally.different + 1,
-            },
-            more: true,
-        },
-        Outcome::Malformed => Progress {
-            tally: Tally {
-                vectors,
-                different: tally.different + 1,
-            },
-            more: false,
-        },
+        Outcome::Same => ControlFlow::Continue(Tally { vectors, ..tally }),
+        Outcome::Differs => ControlFlow::Continue(Tally { vectors, different }),
+        Outcome::Malformed => ControlFlow::Break(Tally { vectors, different }),
     }
 }
 
-// Reads the next vector and runs it, where there is a whole header. A malformed one has a line.
-fn run_next<R: Read>(rt: &impl Print, file: &mut R, tally: Tally) -> io::Result<Progress>
+// Reads the next vector and runs it; breaks where there is no whole header. A malformed one has a line.
+fn run_next<R: Read>(
+    rt: &impl Print,
+    alloc: Global,
+    file: &mut R,
+    tally: Tally,
+) -> io::Result<ControlFlow<Tally, Tally>>
     requires { (tally.vectors < 2 ^ 62) × (tally.different < 2 ^ 62) }
     ensures { IfOk result (λ next.
-        (next.tally.vectors ≤ tally.vectors + 1) × (next.tally.different ≤ tally.different + 1)) }
+        ((tally_of next).vectors ≤ tally.vectors + 1) × ((tally_of next).different ≤ tally.different + 1)) }
 {
-    let mut header = [0u64; 12];
-    let there = read::read_words(file, &mut header)?;
-    if !there {
-        return Ok(Progress { tally, more: false });
-    }
-    let v = read::vector_of(&header);
-    let outcome = run_vector(rt, file, tally.vectors, v)?;
+    let Some(v) = read::read_header(alloc, file)? else {
+        return Ok(ControlFlow::Break(tally));
+    };
+    let outcome = run_vector(rt, alloc, file, tally.vectors, v)?;
     if let Outcome::Malformed = outcome {
         compare::print_malformed(rt, tally.vectors)?;
     }
@@ -175,16 +114,15 @@ fn run_next<R: Read>(rt: &impl Print, file: &mut R, tally: Tally) -> io::Result<
 }
 
 // Runs the vectors of a file.
-pub(crate) fn run_file<R: Read>(rt: &impl Print, file: &mut R) -> io::Result<Tally> {
+pub(crate) fn run_file<R: Read>(rt: &impl Print, alloc: Global, file: &mut R) -> io::Result<Tally> {
     let mut tally = Tally {
         vectors: 0,
         different: 0,
     };
     for _ in 0..VECTORS {
-        let progress = run_next(rt, file, tally)?;
-        tally = progress.tally;
-        if !progress.more {
-            break;
+        match run_next(rt, alloc, file, tally)? {
+            ControlFlow::Continue(next) => tally = next,
+            ControlFlow::Break(last) => return Ok(last),
         }
     }
     Ok(tally)

@@ -11,8 +11,11 @@ use Rattle.counting.proofs.Laws.Tests.{both, and_both, bool_iff, either, or_left
 use Rattle.table.specs.declared.geometry.Geometry.{Geometry}
 use Rattle.table.specs.declared.answers.Answer.TheVariants.{Done}
 use Rattle.table.specs.Words.{current_of, kept_of, invalid, shared, owner, modified, shared_ck1}
-use Rattle.table.specs.Stores.{Stored, StoredIn, state_to, value_to}
-use Rattle.table.proofs.Laws.Stores.{stored_then, stored_two, stored_none}
+use Rattle.table.specs.declared.stores.Stores.{Stores}
+use Rattle.table.specs.Stores.{Stored, state_to, value_to}
+use Rattle.table.proofs.Laws.Stores.{stored_none}
+use Rattle.table.specs.Made.{Made, MadeIn}
+use Rattle.table.proofs.Laws.Made.{made_then}
 use Rattle.table.specs.View.{View, view}
 use Rattle.table.specs.Answers.{Plan, carry, Meets}
 use Rattle.table.proofs.Laws.Answers.{meets_done}
@@ -54,14 +57,12 @@ server_held g v b = holder_first g v b owner shared_ck1 serves server_codes
 
 -- all that a fetch stores, in its order: the premises are in the order of the code's stores
 pub fetch_all :
-    {g : Geometry} (v : View) (server n b value : ℕ) {state k left left₁ left₂ left₃ : ℕ} {t t₁ t₂ t₃ : List ℕ}
-    → state ≡ (v.entry n b).state → k ≡ kept_of state
-    → StoredIn g left server b (server_changes (v.entry server b)) t t₁ left₁
-    → StoredIn g left₁ n b (value_to value ∷ []) t₁ t₂ left₂
-    → StoredIn g left₂ n b (state_to shared k ∷ []) t₂ t₃ left₃
-    → Stored g left (fetch_from v server n b value) t t₃ left₃
+    (v : View) (server n b value : ℕ) {state k : ℕ} {s s₁ s₂ s₃ : Stores} → state ≡ (v.entry n b).state → k ≡ kept_of state
+    → MadeIn s server b (server_changes (v.entry server b)) s₁
+    → MadeIn s₁ n b (value_to value ∷ []) s₂
+    → MadeIn s₂ n b (state_to shared k ∷ []) s₃ → Made s (fetch_from v server n b value) s₃
 unfolding fetch_from
-fetch_all v server n b value s h first second third = rw (← s, ← h) (stored_then first (stored_two second third))
+fetch_all v server n b value p q first second third = rw (← p, ← q) (made_then first (made_then second third))
 
 -- carried out without a store
 meets_none : {p : Plan} {g : Geometry} {x : ℕ} (limit : ℕ) {t : List ℕ} → p ≡ carry g x [] → Meets p limit t t (Done x 0)

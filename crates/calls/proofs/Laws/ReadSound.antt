@@ -1,4 +1,5 @@
 -- A whole read leaves a table that is accepted.
+use Rattle.std.specs.Prelude.{Ok}
 use Prim.Native.Nat.{ℕ, ◌≤◌, ◌<◌}
 use mathlib.Core.Path.{◌≡◌, ◌∙◌}
 use mathlib.Core.Logic.{◌≢◌}
@@ -12,7 +13,6 @@ use Rattle.table.specs.Stores.{Store, after}
 use Rattle.table.proofs.Laws.Stores.{All, none, all_then}
 use Rattle.table.specs.View.{View, view, current}
 use Rattle.table.specs.Answers.{carry}
-use Rattle.entries.specs.declared.check.Checked.TheVariants.{Passed}
 use Rattle.entries.specs.Check.{fault_of}
 use Rattle.entries.proofs.Laws.Kinds.{Kind}
 use Rattle.entries.proofs.Laws.SoundFacts.{SoundTable, phase_in, number_in}
@@ -86,5 +86,5 @@ module _ (t : List ℕ) (n b : ℕ) {g : Geometry} {value : ℕ} {ss : List Stor
   }
 
   -- so the next call accepts it
-  pub read_sound : (limit : ℕ) → length ss ≤ limit → fault_of (after g limit ss t) ≡ Passed g
+  pub read_sound : (limit : ℕ) → length ss ≤ limit → fault_of (after g limit ss t) ≡ Ok g
   read_sound limit all = facts_accepted (after g limit ss t) g phase number (read_facts limit all)

@@ -1,18 +1,19 @@
 -- The ways of Write's code: a law for each, over what the code has read.
 use Prim.Native.Nat.{ℕ, ◌+◌, ◌≤◌, ◌<◌}
 use mathlib.Core.Path.{◌≡◌, refl, ap, ◌∙◌}
-use mathlib.Core.Bool.{true, false, ◌||◌}
 use mathlib.Core.List.{List, [], ◌∷◌, ◌++◌, map}
 use native.Mathlib.Omega.{arith}
-use lib.Dec.{eqb}
 use lib.ListN.{length}
 use borrow.Author.Tests.{eq-eqb, ne_eqb}
 use Rattle.table.specs.declared.geometry.Geometry.{Geometry}
 use Rattle.table.specs.Geometry.{words_of}
 use Rattle.table.specs.Words.{current_of, modified}
 use Rattle.table.specs.Changes.{checkpoint_of}
-use Rattle.table.specs.Stores.{Stored, StoredIn, entry_store, state_to, value_to}
-use Rattle.table.proofs.Laws.Stores.{stored_then, stored_three, stored_as, loop-turns}
+use Rattle.table.specs.declared.stores.Stores.{Stores}
+use Rattle.table.specs.Stores.{Stored, entry_store, state_to, value_to}
+use Rattle.table.proofs.Laws.Stores.{stored_then, stored_three, loop-turns}
+use Rattle.table.specs.Made.{MadeIn}
+use Rattle.table.proofs.Laws.Made.{made_in_as, made_three, stored_in, stored_next}
 use Rattle.table.specs.View.{Entry, View, view, pass}
 use Rattle.table.proofs.Laws.PassLeaves.{pass_marks, pass_entry}
 use Rattle.calls.specs.Transitions.{keep_copy}
@@ -20,13 +21,18 @@ use Rattle.calls.specs.Write.{other_change, other_changes, other_stores, kept_af
 
 -- the turn of a node
 module _ (v : View) (writer b k : ℕ) {mark : ℕ} (h : mark ≡ v.mark k) where
-  pub node_passed : (eqb k writer || eqb mark 0) ≡ true → other_changes v writer b k ≡ []
+  pub node_writes : k ≡ writer → other_changes v writer b k ≡ []
   unfolding other_changes
-  node_passed e = rw (← h, e)
+  node_writes e = rw (eq-eqb k writer e)
 
-  pub node_turned : (eqb k writer || eqb mark 0) ≡ false → other_changes v writer b k ≡ other_change (v.entry k b)
-  unfolding other_changes
-  node_turned e = rw (← h, e)
+  module _ (d : k ≡ writer → ⊥) where
+    pub node_dead : mark ≡ 0 → other_changes v writer b k ≡ []
+    unfolding other_changes
+    node_dead e = rw (← h, ne_eqb k writer d, eq-eqb mark 0 e)
+
+    pub node_turned : (mark ≡ 0 → ⊥) → other_changes v writer b k ≡ other_change (v.entry k b)
+    unfolding other_changes
+    node_turned e = rw (← h, ne_eqb k writer d, ne_eqb mark 0 e)
 
 -- the turns of the nodes before k leave the marks and the entry of k, whatever the limit
 module _ (g : Geometry) (writer b k : ℕ) (hk : k ≤ g.nodes) (hb : b < g.items) {left left₁ : ℕ} {t t₁ : List ℕ} (long : words_of g ≤ length t)
@@ -60,16 +66,17 @@ module _ (w value : ℕ) {number : ℕ} (h : number ≡ checkpoint_of (current_o
 
 -- all that the writer stores, in its order: the premises are in the order of the code's stores
 pub own_all :
-    {g : Geometry} (n b : ℕ) (e : Entry) {x w value k left left₁ left₂ left₃ : ℕ} {t t₁ t₂ t₃ : List ℕ}
-    → w ≡ e.state → value ≡ e.value → k ≡ kept_after w
-    → StoredIn g left n b (own_keep w value) t t₁ left₁
-    → StoredIn g left₁ n b (value_to x ∷ []) t₁ t₂ left₂
-    → StoredIn g left₂ n b (state_to modified k ∷ []) t₂ t₃ left₃ → StoredIn g left n b (own_changes e x) t t₃ left₃
+    (n b : ℕ) (e : Entry) {x w value k : ℕ} {s s₁ s₂ s₃ : Stores} → w ≡ e.state → value ≡ e.value → k ≡ kept_after w
+    → MadeIn s n b (own_keep w value) s₁
+    → MadeIn s₁ n b (value_to x ∷ []) s₂
+    → MadeIn s₂ n b (state_to modified k ∷ []) s₃ → MadeIn s n b (own_changes e x) s₃
 unfolding own_changes
 own_all n b e {x} {w} {value} {k} p q h first second third =
     let same : own_changes e x ≡ (own_keep w value ++ (value_to x ∷ [])) ++ (state_to modified k ∷ []) = rw (h, p, q) in
-    stored_as (ap (map (entry_store n b)) same)
-    (stored_three n b (own_keep w value) (value_to x ∷ []) (state_to modified k ∷ []) first second third)
+    made_in_as n b same
+    (made_three first second third
+    (stored_three n b (own_keep w value) (value_to x ∷ []) (state_to modified k ∷ []) first.stored (stored_next first second)
+    (stored_in (second.same_geometry ∙ first.same_geometry) third)))
 
 -- others first, then the writer's own entry as it was at the start
 pub write_then :

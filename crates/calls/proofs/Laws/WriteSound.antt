@@ -1,4 +1,5 @@
 -- A whole write leaves a sound table: the item written is dirty, one Modified copy of the value written; and what the memory then shows.
+use Rattle.std.specs.Prelude.{Ok}
 use Prim.Native.Nat.{ℕ, ◌≤◌, ◌<◌}
 use mathlib.Core.Path.{◌≡◌, sym, ap, ◌∙◌}
 use mathlib.Core.Logic.{◌≢◌}
@@ -15,7 +16,6 @@ use Rattle.table.proofs.Laws.Stores.{All, all_then}
 use Rattle.table.specs.View.{View, view, live, current}
 use Rattle.table.specs.Copies.{back_copy}
 use Rattle.table.specs.Answers.{carry}
-use Rattle.entries.specs.declared.check.Checked.TheVariants.{Passed}
 use Rattle.entries.specs.Check.{fault_of}
 use Rattle.entries.proofs.Laws.Kinds.{Dirty, modified_at, dirty, has_at_lem, has_code, has_live, copy_live, copy_code}
 use Rattle.entries.proofs.Laws.SoundFacts.{SoundTable, phase_in, number_in}
@@ -108,5 +108,5 @@ module _
   }
 
   -- the table after a whole write passes every check
-  pub write_sound : fault_of (after g limit ss t) ≡ Passed g
+  pub write_sound : fault_of (after g limit ss t) ≡ Ok g
   write_sound = facts_accepted (after g limit ss t) g _ _ write_accepted

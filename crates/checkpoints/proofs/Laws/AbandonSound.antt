@@ -1,4 +1,5 @@
 -- A whole Abandon leaves a sound table, in phase 0: a created item is dirty again, its Owner where Precommit1 stood; every other item is as it was.
+use Rattle.std.specs.Prelude.{Ok}
 use Prim.Native.Nat.{ℕ, ◌≤◌, ◌<◌}
 use mathlib.Core.Path.{◌≡◌, refl, ap, ◌∙◌}
 use mathlib.Core.Bool.{Bool, true, false, cond}
@@ -18,13 +19,11 @@ use Rattle.table.specs.Stores.{Store, after}
 use Rattle.table.proofs.Laws.Stores.{All, all_then}
 use Rattle.table.specs.View.{Entry, View, view, live, current, kept}
 use Rattle.table.specs.Answers.{carry}
-use Rattle.entries.specs.declared.check.Checked.TheVariants.{Passed}
 use Rattle.entries.specs.Check.{fault_of}
 use Rattle.entries.proofs.Laws.Kinds.{clean_code, owner_code, Dirty, Created, owner_at, Kind, clean, dirty, created}
 use Rattle.entries.proofs.Laws.SoundFacts.{SoundTable, number_in}
 use Rattle.entries.proofs.Laws.CheckFacts.{Accepted, facts_accepted}
-use Rattle.checkpoints.specs.declared.checkpoint.Closing.TheVariants.{Abandoned}
-use Rattle.checkpoints.specs.Checkpoint.{is_precommit, close_change}
+use Rattle.checkpoints.specs.Checkpoint.{is_precommit, abandon_change}
 use Rattle.checkpoints.specs.Commit.{running_mark, abandon_stores, abandon_of}
 use Rattle.homes.proofs.Laws.Kept.{live_test, test_live}
 use Rattle.checkpoints.proofs.Laws.KeptMarks.{KeptEntries}
@@ -120,7 +119,7 @@ module _
 
 pub abandon_off : (g : Geometry) (v : View) → All (Off g) (abandon_stores g v)
 unfolding abandon_stores
-abandon_off g v = all_then (entries_off g v (close_change Abandoned)) (marks_off g v running_mark)
+abandon_off g v = all_then (entries_off g v abandon_change) (marks_off g v running_mark)
 
 module _
     (t : List ℕ) {g : Geometry} {value : ℕ} {ss : List Store} (accepted : abandon_of t ≡ carry g value ss) (limit : ℕ) (whole : length ss ≤ limit) where
@@ -135,5 +134,5 @@ module _
   }
 
   -- the table after a whole Abandon passes every check
-  pub abandon_sound : fault_of (after g limit ss t) ≡ Passed g
+  pub abandon_sound : fault_of (after g limit ss t) ≡ Ok g
   abandon_sound = facts_accepted (after g limit ss t) g _ _ abandon_accepted

@@ -15,9 +15,8 @@ use Rattle.table.proofs.Laws.MarksPass.{Mixed, marks_via}
 use Rattle.table.specs.Answers.{carry}
 use Rattle.entries.proofs.Laws.SoundFacts.{SoundTable, phase_in, number_in}
 use Rattle.entries.proofs.Laws.CheckFacts.{Accepted, accepted_facts}
-use Rattle.checkpoints.specs.declared.checkpoint.Closing.TheVariants.{Abandoned}
 use Rattle.homes.proofs.Laws.Plans.{Carried, acted_carried}
-use Rattle.checkpoints.specs.Checkpoint.{open_admission, close_change}
+use Rattle.checkpoints.specs.Checkpoint.{open_admission, abandon_change}
 use Rattle.checkpoints.specs.Commit.{running_mark, abandon_stores, abandon_of}
 use Rattle.homes.proofs.Laws.SoundTells.{formed_at}
 use Rattle.homes.proofs.Laws.Kept.{Live, live_test}
@@ -40,12 +39,11 @@ pub record AbandonEnd (g : Geometry) (v w : View) : Type 0 where
 
 module _ (g : Geometry) (v : View) (phase number : ℕ) (good : SoundTable g v phase number) where
   abbrev Ends : View → Type 0
-  Ends = AllPassed g v (close_change Abandoned) (λ e. Safe e 0) (λ e e'. e' ≡ abandoned e) v
+  Ends = AllPassed g v abandon_change (λ e. Safe e 0) (λ e e'. e' ≡ abandoned e) v
 
   steps_at :
       (n b : ℕ) → Live g v n → b < g.items
-      → Steps (Safe (v.entry n b) 0) (λ e. e ≡ abandoned (v.entry n b)) (v.entry n b) (close_change Abandoned (v.entry n b))
-  unfolding close_change
+      → Steps (Safe (v.entry n b) 0) (λ e. e ≡ abandoned (v.entry n b)) (v.entry n b) (abandon_change (v.entry n b))
   steps_at n b l h = abandon_steps (v.entry n b) (formed_at g v phase number good n b l h)
 
   -- the closing marks, on the view that the entries leave
@@ -67,7 +65,7 @@ module _ (g : Geometry) (v : View) (phase number : ℕ) (good : SoundTable g v p
   unfolding abandon_stores
   abandon_via = via_then
       (via_loosen
-      (entries_via g v (close_change Abandoned) (λ e. Safe e 0) (λ e e'. e' ≡ abandoned e) (safe_begin g v phase number good) steps_at v refl)
+      (entries_via g v abandon_change (λ e. Safe e 0) (λ e e'. e' ≡ abandoned e) (safe_begin g v phase number good) steps_at v refl)
       (λ w e. record { safe = e.entries; marks = λ n. inl (ap (λ m. m n) e.marks) }))
       closing_via
 

@@ -1,5 +1,5 @@
 -- The laws of `specs/Checkpoint.antt`.
-use Prim.Native.Nat.{ℕ, zero, suc, ◌+◌, ◌/◌, ◌%◌, ◌<◌, ◌≤◌}
+use Prim.Native.Nat.{ℕ, zero, suc, ◌+◌, ◌*◌, ◌/◌, ◌%◌, ◌<◌, ◌≤◌}
 use mathlib.Core.Path.{◌≡◌, refl, sym, ap, ap₂, ◌∙◌}
 use mathlib.Core.Bool.{not}
 use mathlib.Core.List.{List, [], ◌++◌, map}
@@ -10,17 +10,17 @@ use Rattle.counting.proofs.Laws.Tests.{and_both}
 use Rattle.counting.specs.Counting.{first}
 use Rattle.counting.proofs.Laws.First.{first_turns, first_found}
 use Rattle.table.specs.declared.geometry.Geometry.{Geometry}
-use Rattle.table.specs.declared.answers.Refusal.TheVariants.{NoCheckpoint}
-use Rattle.table.specs.Geometry.{words_of}
+use Rattle.table.specs.Geometry.{entry_words, words_of, entry_at}
 use Rattle.table.proofs.Laws.Geometry.{entry_within}
-use Rattle.table.specs.Words.{phase_of}
-use Rattle.table.specs.Stores.{Change, entry_store, Stored, StoredIn, runs}
+use Rattle.table.specs.declared.stores.Stores.{Stores}
+use Rattle.table.specs.Stores.{Change, Store, entry_store, Stored, runs}
+use Rattle.table.specs.code.Stores.{StoredIn}
+use Rattle.table.specs.Made.{Made}
 use Rattle.table.proofs.Laws.Stores.{runs_ext, stored_as, stored_none}
 use Rattle.table.specs.View.{Entry, View, view, live, pass}
 use Rattle.table.proofs.Laws.View.{mark_none, entry_word_lem, state_read}
 use Rattle.table.proofs.Laws.PassTurns.{Local, items_turn, nodes_turn, nodes_start}
-use Rattle.homes.specs.declared.admission.Admission.TheVariants.{Admitted, Turned}
-use Rattle.checkpoints.specs.Checkpoint.{common_mark, is_open, open_admission, live_changes, entries_before, entries_to}
+use Rattle.checkpoints.specs.Checkpoint.{common_mark, live_changes, entries_before, entries_to}
 use Rattle.checkpoints.specs.code.Checkpoint.{Lies}
 
 -- ---- the ways of the code
@@ -38,6 +38,12 @@ module _ (change : Entry → List Change) (v : View) (n b : ℕ) {mark : ℕ} (h
   unfolding live_changes
   changes_live d = rw (← h, ne_eqb mark 0 d) refl
 
+-- the entries of a node, which begin at `start`
+pub entry_lies :
+    (g : Geometry) (t : List ℕ) (n : ℕ) → n < g.nodes → words_of g ≤ length t → {start : ℕ} → start ≡ entry_at g n 0 → (b : ℕ) → b < g.items
+    → Lies g t n b (start + entry_words * b)
+entry_lies g t n l long e b h = record { node = l; item = h; place = omega arith; long = long }
+
 module _ {g : Geometry} {t : List ℕ} {n b at : ℕ} (h : Lies g t n b at) where
   pub lies_within : at + 2 < length t
   lies_within = omega (arith, entry_within g h.node h.item, h.place, h.long)
@@ -45,6 +51,17 @@ module _ {g : Geometry} {t : List ℕ} {n b at : ℕ} (h : Lies g t n b at) wher
   pub lies_state : get_or t at 0 ≡ ((view g t).entry n b).state
   lies_state =
       entry_word_lem g t n b 0 (and_both (lt-ltb n g.nodes h.node) (lt-ltb b g.items h.item)) (omega (arith, h.place)) refl ∙ state_read g t n b
+
+-- after stores: a table that had all its words has them, and its entries lie where they lay
+module _ {s s' : Stores} {ss : List Store} (m : Made s ss s') where
+  pub made_long : words_of s.g ≤ length s.table.now → words_of s'.g ≤ length s'.table.now
+  made_long long = rw m.same_geometry (omega (arith, long, m.stored.size))
+
+  pub made_lies :
+      {n start : ℕ} → n < s.g.nodes → words_of s.g ≤ length s.table.now → start ≡ entry_at s.g n 0
+      → (b : ℕ) → b < s.g.items → Lies s'.g s'.table.now n b (start + entry_words * b)
+  made_lies l long e b h =
+      rw m.same_geometry (entry_lies s.g s'.table.now _ l (omega (arith, long, m.stored.size)) e b h)
 
 -- the pass over a live node's entries, item by item, and a dead node's
 module _ (change : Entry → List Change) (g : Geometry) {left left₁ : ℕ} {t t₁ : List ℕ} (n : ℕ) where
@@ -107,13 +124,3 @@ module _ (g : Geometry) (change : Entry → List Change) {left left₁ : ℕ} {t
 pub entries_start : (g : Geometry) (v : View) (change : Entry → List Change) (left : ℕ) (t : List ℕ) → Stored g left (entries_before g v change 0) t t left
 unfolding entries_before
 entries_start g v change left t = nodes_start g (λ k. live_changes change v (k / g.items) (k % g.items)) left t
-
--- "8 no checkpoint open"
-module _ (g : Geometry) (v : View) {mark phase : ℕ} (h : mark ≡ common_mark g v) (e : phase ≡ phase_of mark) where
-  pub open_yes : phase ≡ 1 → Admitted ≡ open_admission g v
-  unfolding open_admission is_open
-  open_yes p = rw (← h, ← e, eq-eqb phase 1 p) refl
-
-  pub open_no : (phase ≡ 1 → ⊥) → Turned NoCheckpoint ≡ open_admission g v
-  unfolding open_admission is_open
-  open_no p = rw (← h, ← e, ne_eqb phase 1 p) refl

@@ -1,26 +1,20 @@
 -- Laws of `specs/Checkpoint.antt`: how an open checkpoint ends in an entry.
-use Prim.Native.Nat.{ℕ, ◌+◌, ◌*◌, ◌/◌, ◌%◌, ◌^◌, ◌<◌}
+use Prim.Native.Nat.{ℕ, ◌*◌, ◌/◌, ◌%◌, ◌^◌, ◌<◌}
 use mathlib.Core.Path.{◌≡◌, refl, ap, ◌∙◌}
-use mathlib.Core.Bool.{Bool, true, false, not, ◌||◌}
+use mathlib.Core.Bool.{Bool, true, false}
 use mathlib.Core.List.{[], ◌∷◌}
 use native.Mathlib.Omega.{arith}
-use lib.Dec.{eqb}
+use Rattle.std.specs.Int.{rotate_left, w64}
+use Rattle.std.proofs.lemmas.Nat.{le_or_l, le_or_r}
 use borrow.Author.Tests.{eq-eqb, ne_eqb}
 use Rattle.table.specs.declared.changes.Event.TheVariants.{Commit, Abandon}
 use Rattle.table.specs.Words.{invalid, precommit1, precommit2, current_of, kept_of}
 use Rattle.table.specs.Changes.{change_of}
 use Rattle.table.specs.Stores.{state_to}
 use Rattle.table.specs.View.{Entry, current}
-use Rattle.checkpoints.specs.declared.checkpoint.Closing.{Closing}
-use Rattle.checkpoints.specs.declared.checkpoint.Closing.TheVariants.{Committed, Abandoned}
-use Rattle.checkpoints.specs.Checkpoint.{is_precommit, to_commit, commit_change, abandon_change, close_change}
+use Rattle.checkpoints.specs.Checkpoint.{is_precommit, to_commit, commit_change, abandon_change}
 
 -- ---- the ways of the code
-
--- what a commit asks of a state word
-pub commits_asked :
-    (w : ℕ) {c k : ℕ} → c ≡ current_of w → k ≡ kept_of w → (is_precommit c || not (eqb k invalid)) ≡ to_commit w
-commits_asked w p q = rw (p, q) refl
 
 -- an entry of this state word
 module _ (e : Entry) {state : ℕ} (h : state ≡ e.state) where
@@ -49,27 +43,12 @@ module _ (e : Entry) {state : ℕ} (h : state ≡ e.state) where
     unfolding abandon_change
     abandon_stays y = rw (← current_is, y) refl
 
--- a word that is turned by four bits is a word
-digits_fit : (r q : ℕ) → r < 2 ^ 60 → q < 16 → r * 16 + q < 2 ^ 64
-digits_fit r q h k = omega arith
-
-pub turned_fits : (w : ℕ) → w < 2 ^ 64 → w % 2 ^ 60 * 16 + w / 2 ^ 60 < 2 ^ 64
-turned_fits w h = digits_fit (w % 2 ^ 60) (w / 2 ^ 60) (omega arith) (omega arith)
-
--- one that is then a code under 6
-pub commits_not : (w : ℕ) → w % 2 ^ 60 * 16 + w / 2 ^ 60 < 6 → false ≡ to_commit w
+-- a word that is a code under 6 once it is turned by four bits
+pub commits_not : (w : ℕ) → rotate_left w64 w 4 < 6 → false ≡ to_commit w
 commits_not w l =
-    let c : current_of w < 6 = omega arith in
+    let q : w * 2 ^ 4 % 2 ^ 64 < 6 = omega (arith, l, le_or_l (w * 2 ^ 4 % 2 ^ 64) (w / 2 ^ 60)) in
+    let c : current_of w < 6 = omega (arith, l, le_or_r (w * 2 ^ 4 % 2 ^ 64) (w / 2 ^ 60)) in
     let k : kept_of w ≡ 0 = omega arith in
     let p = ne_eqb (current_of w) precommit1 (λ z. omega arith) in
     let q = ne_eqb (current_of w) precommit2 (λ z. omega arith) in
     rw (p, q, eq-eqb (kept_of w) 0 k) refl
-
-module _ {way : Closing} (e : Entry) where
-  pub close_commits : way ≡ Committed → close_change way e ≡ commit_change e
-  unfolding close_change
-  close_commits w = rw w refl
-
-  pub close_abandons : way ≡ Abandoned → close_change way e ≡ abandon_change e
-  unfolding close_change
-  close_abandons w = rw w refl

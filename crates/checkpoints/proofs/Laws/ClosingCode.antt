@@ -1,4 +1,5 @@
 -- Laws of `specs/code/Checkpoint.antt`: live marks agree, so one word is stored on each of them.
+use Rattle.std.specs.Prelude.{Ok}
 use Prim.Native.Nat.{ℕ, ◌+◌, ◌*◌, ◌/◌, ◌%◌, ◌^◌, ◌≤◌, ◌<◌}
 use mathlib.Core.Path.{◌≡◌, sym, ap, ap₂, ◌∙◌}
 use mathlib.Core.Bool.{not, cond}
@@ -12,25 +13,25 @@ use Rattle.counting.proofs.Laws.First.{first_passes, first_below}
 use Rattle.table.specs.declared.geometry.Geometry.{Geometry}
 use Rattle.table.specs.Geometry.{words_of}
 use Rattle.table.specs.Words.{number_of, mark_word}
+use Rattle.table.specs.declared.stores.Stores.{Stores}
 use Rattle.table.specs.Stores.{Change, mark_store, entry_store, Stored}
+use Rattle.table.specs.Made.{Made, shown}
 use Rattle.table.proofs.Laws.Stores.{runs_ext, stored_then, stored_as}
 use Rattle.table.specs.View.{Entry, View, view, live, mark_to, marks_to}
 use Rattle.table.proofs.Laws.Pass.{grid_within, grid_once}
 use Rattle.table.proofs.Laws.PassLeaves.{pass_marks}
 use Rattle.table.proofs.Laws.MarksPass.{marks_as, marks_leave, marks_live}
-use Rattle.entries.specs.declared.check.Checked.TheVariants.{Passed}
 use Rattle.entries.specs.Check.{fault_of}
 use Rattle.entries.proofs.Laws.CheckFacts.{accepted_facts}
 use Rattle.entries.proofs.Laws.SoundFacts.{sound_mark}
-use Rattle.checkpoints.specs.declared.checkpoint.Closing.TheVariants.{Committed, Abandoned}
-use Rattle.checkpoints.specs.Checkpoint.{common_mark, live_changes, entries_before, entries_to, close_change}
+use Rattle.checkpoints.specs.Checkpoint.{common_mark, live_changes, entries_before, entries_to, commit_change, abandon_change}
 use Rattle.checkpoints.specs.Open.{creating_mark, open_stores}
 use Rattle.checkpoints.specs.Commit.{committing_mark, committed_mark, commit_stores, running_mark, abandon_stores}
 use Rattle.checkpoints.specs.code.Checkpoint.{Agreed, MarksStored}
 
 -- ---- live marks agree
 
-pub passed_agreed : (t : List ℕ) (g : Geometry) → fault_of t ≡ Passed g → Agreed g t
+pub passed_agreed : (t : List ℕ) (g : Geometry) → fault_of t ≡ Ok g → Agreed g t
 unfolding common_mark
 passed_agreed t g e =
     let a = accepted_facts t g e in
@@ -95,37 +96,51 @@ module _ (g : Geometry) {left left₁ : ℕ} {t t₁ : List ℕ} (long : words_o
       (pass_marks g (λ k. k / g.items) (λ k. k % g.items) (g.nodes * g.items) (grid_within g) (λ d e _ _. grid_once g.items d e)
       (λ k. live_changes change (view g t) (k / g.items) (k % g.items)) long s)
 
+-- ---- one stage, made of the lent table
+
+pub marks_made :
+    {s s' : Stores} {word : ℕ} → MarksStored s word s.g.nodes s' → words_of s.g ≤ length s.table.now
+    → Made s (marks_to s.g (shown s) (λ w. word)) s'
+unfolding marks_to
+marks_made m long =
+    record {
+      same_reference = m.same_reference;
+      same_geometry = m.same_geometry;
+      stored = m.stored long;
+    }
+
 -- ---- the stages together
 
 module _ (g : Geometry) {left left₁ : ℕ} {t t₁ : List ℕ} (a : Agreed g t) where
   pub open_then :
-      {word : ℕ} → word ≡ creating_mark (common_mark g (view g t)) → MarksStored g left word t t₁ left₁
-      → Stored g left (open_stores g (view g t)) t t₁ left₁
-  open_then h s = stored_as (marks_one g t a creating_mark h) (s.stored a.long)
+      {word : ℕ} → word ≡ creating_mark (common_mark g (view g t))
+      → Stored g left (marks_to g (view g t) (λ w. word)) t t₁ left₁ → Stored g left (open_stores g (view g t)) t t₁ left₁
+  open_then h s = stored_as (marks_one g t a creating_mark h) s
 
   module _ {left₂ : ℕ} {t₂ : List ℕ} where
     pub abandon_then :
-        {word : ℕ} → word ≡ running_mark (common_mark g (view g t)) → Stored g left (entries_to g (view g t) (close_change Abandoned)) t t₁ left₁
-        → MarksStored g left₁ word t₁ t₂ left₂ → Stored g left (abandon_stores g (view g t)) t t₂ left₂
+        {word : ℕ} → word ≡ running_mark (common_mark g (view g t)) → Stored g left (entries_to g (view g t) abandon_change) t t₁ left₁
+        → Stored g left₁ (marks_to g (view g t₁) (λ w. word)) t₁ t₂ left₂
+        → Stored g left (abandon_stores g (view g t)) t t₂ left₂
     unfolding abandon_stores
     abandon_then {word} h first second =
-        let long₁ : words_of g ≤ length t₁ = omega (arith, a.long, first.size) in
-        stored_then first
-        (stored_as (marks_one g t a running_mark h ∙ sym (marks_found g (view g t) (view g t₁) (live_after g a.long (close_change Abandoned) first) word)) (second.stored long₁))
+        let m₁ = marks_found g (view g t) (view g t₁) (live_after g a.long abandon_change first) word in
+        stored_then first (stored_as (marks_one g t a running_mark h ∙ sym m₁) second)
 
     pub commit_then :
         {left₃ word closing : ℕ} {t₃ : List ℕ} → word ≡ committing_mark (common_mark g (view g t)) → closing ≡ committed_mark (common_mark g (view g t))
-        → MarksStored g left word t t₁ left₁ → Stored g left₁ (entries_to g (view g t₁) (close_change Committed)) t₁ t₂ left₂
-        → MarksStored g left₂ closing t₂ t₃ left₃ → Stored g left (commit_stores g (view g t)) t t₃ left₃
+        → Stored g left (marks_to g (view g t) (λ w. word)) t t₁ left₁
+        → Stored g left₁ (entries_to g (view g t₁) commit_change) t₁ t₂ left₂
+        → Stored g left₂ (marks_to g (view g t₂) (λ w. closing)) t₂ t₃ left₃
+        → Stored g left (commit_stores g (view g t)) t t₃ left₃
     unfolding commit_stores
-    commit_then {word = word} {closing} h k marked second marked₂ =
-        let first = marked.stored a.long in
+    commit_then {word = word} {closing} h k first second third =
         let new = mark_new 2 _ word h in
         let l₁ = live_left g a.long new first in
         let e₁ = entries_left g a.long new first in
         let long₁ : words_of g ≤ length t₁ = omega (arith, a.long, first.size) in
-        let second' = stored_as (sym (entries_found g (view g t) (view g t₁) l₁ e₁ (close_change Committed))) second in
-        let l₂ : (n : ℕ) → live (view g t₂) n ≡ live (view g t) n = λ n. live_after g long₁ (close_change Committed) second n ∙ l₁ n in
-        let long₂ : words_of g ≤ length t₂ = omega (arith, long₁, second.size) in
-        let third' = stored_as (marks_one g t a committed_mark k ∙ sym (marks_found g (view g t) (view g t₂) l₂ closing)) (marked₂.stored long₂) in
+        let second' = stored_as (sym (entries_found g (view g t) (view g t₁) l₁ e₁ commit_change)) second in
+        let l₂ : (n : ℕ) → live (view g t₂) n ≡ live (view g t) n = λ n. live_after g long₁ commit_change second n ∙ l₁ n in
+        let m₂ = marks_found g (view g t) (view g t₂) l₂ closing in
+        let third' = stored_as (marks_one g t a committed_mark k ∙ sym m₂) third in
         stored_then (stored_then (stored_as (marks_one g t a committing_mark h) first) second') third'

@@ -1,5 +1,6 @@
 -- THE THEOREM of how long a save is: two stores for each live node, four for each created item, less one where a
 -- Precommit and an Inv-CK stand in one entry.
+use Rattle.std.specs.Prelude.{Ok}
 use Prim.Native.Nat.{ℕ, zero, suc, ◌+◌, ◌*◌, ◌≤◌, ◌<◌, min}
 use mathlib.Core.Path.{◌≡◌, refl, sym, ap, ap₂, ◌∙◌}
 use mathlib.Core.Bool.{Bool, true, false, cond, not, ◌&&◌, ◌||◌}
@@ -25,10 +26,8 @@ use Rattle.entries.proofs.Laws.Kinds.{clean_code, Clean, Created, Kind, clean, d
 use Rattle.entries.proofs.Laws.Codes.{two_codes}
 use Rattle.entries.proofs.Laws.KindTests.{created_test}
 use Rattle.entries.proofs.Laws.SoundFacts.{SoundTable}
-use Rattle.homes.specs.declared.admission.Admission.TheVariants.{Admitted}
 use Rattle.homes.proofs.Laws.Plans.{acted_value}
-use Rattle.checkpoints.specs.declared.checkpoint.Closing.TheVariants.{Committed}
-use Rattle.checkpoints.specs.Checkpoint.{is_precommit, live_changes, entries_before, entries_to, close_change, commit_change, to_commit}
+use Rattle.checkpoints.specs.Checkpoint.{is_precommit, live_changes, entries_before, entries_to, commit_change, to_commit}
 use Rattle.checkpoints.specs.Commit.{committing_mark, committed_mark, commit_stores, commit_admission, commit_of}
 use Rattle.checkpoints.specs.CommitCount.{created_in, created_items, commit_bound, side_by_side, live_side_by_side, commit_length, CommitCounted, CommitCount}
 use Rattle.checkpoints.proofs.Laws.KindMoved.{not_precommit}
@@ -56,10 +55,10 @@ beside v n b = live v n && side_by_side (v.entry n b).state
 
 module _ (g : Geometry) (v : View) where
   abbrev stores_at : ℕ → ℕ → List Store
-  stores_at n b = map (entry_store n b) (live_changes (close_change Committed) v n b)
+  stores_at n b = map (entry_store n b) (live_changes commit_change v n b)
 
   at_one : (n b : ℕ) → length (stores_at n b) ≡ one (stored v n b)
-  unfolding live_changes close_change commit_change
+  unfolding live_changes commit_change
   at_one n b =
       go (live v n) (to_commit (v.entry n b).state) (state_to (change_of (current (v.entry n b)) Commit) invalid)
     where
@@ -72,7 +71,7 @@ module _ (g : Geometry) (v : View) where
   node_count : (n m : ℕ) → length (runs (stores_at n) m) ≡ count (stored v n) m
   node_count n m = runs_sum (stores_at n) m ∙ sum_ext m _ _ (λ b _. at_one n b) ∙ sum_count (stored v n) m
 
-  entries_count : length (entries_to g v (close_change Committed)) ≡ sum (λ n. count (stored v n) g.items) g.nodes
+  entries_count : length (entries_to g v commit_change) ≡ sum (λ n. count (stored v n) g.items) g.nodes
   unfolding entries_before
   entries_count =
       ap length (sym (nested_flat stores_at g.items g.nodes))
@@ -89,8 +88,8 @@ module _ (g : Geometry) (v : View) where
         marks_count g v committing_mark,
         marks_count g v committed_mark,
         entries_count,
-        length-append (marks_to g v committing_mark) (entries_to g v (close_change Committed)),
-        length-append (marks_to g v committing_mark ++ entries_to g v (close_change Committed)) (marks_to g v committed_mark),
+        length-append (marks_to g v committing_mark) (entries_to g v commit_change),
+        length-append (marks_to g v committing_mark ++ entries_to g v commit_change) (marks_to g v committed_mark),
       )
 
 -- ---- one item
@@ -153,7 +152,7 @@ module _ (v : View) (N b : ℕ) (forms : (n : ℕ) → n < N → live v n ≡ tr
 
 -- ---- the whole list
 
-module _ (g : Geometry) (v : View) (phase number : ℕ) (good : SoundTable g v phase number) (admitted : commit_admission g v ≡ Admitted) where
+module _ (g : Geometry) (v : View) (phase number : ℕ) (good : SoundTable g v phase number) (admitted : commit_admission g v ≡ (Ok tt)) where
   item_count :
       (b : ℕ) → b < g.items
       → count (λ n. stored v n b) g.nodes + count (λ n. beside v n b) g.nodes ≡ 4 * one (created_in g v b)

@@ -1,4 +1,5 @@
 -- A whole Commit leaves a sound table, in phase 0, of the next number: every item is clean, and its value is the current value at entry.
+use Rattle.std.specs.Prelude.{Ok}
 use Prim.Native.Nat.{ℕ, ◌+◌, ◌-◌, ◌^◌, ◌≤◌, ◌<◌}
 use mathlib.Core.Path.{◌≡◌, refl, sym, ap, ◌∙◌}
 use mathlib.Core.Bool.{Bool, true, false, not, ◌&&◌, ◌||◌}
@@ -19,13 +20,11 @@ use Rattle.table.specs.Changes.{change_of}
 use Rattle.table.specs.Stores.{Store, after}
 use Rattle.table.specs.View.{Entry, View, view, live, current, kept}
 use Rattle.table.specs.Answers.{carry}
-use Rattle.entries.specs.declared.check.Checked.TheVariants.{Passed}
 use Rattle.entries.specs.Check.{fault_of}
 use Rattle.entries.specs.Tally.{copy, kept_copy}
 use Rattle.entries.proofs.Laws.Kinds.{clean_code, Clean, Owned, modified_at, owner_at, Created, Kind, clean, dirty, created, has_live, has_code, no_keep}
 use Rattle.entries.proofs.Laws.SoundFacts.{SoundTable, number_in}
 use Rattle.entries.proofs.Laws.CheckFacts.{Accepted, facts_accepted}
-use Rattle.homes.specs.declared.admission.Admission.TheVariants.{Admitted}
 use Rattle.entries.specs.Dirty.{owns}
 use Rattle.checkpoints.specs.Checkpoint.{is_precommit, to_commit}
 use Rattle.checkpoints.specs.Commit.{commit_admission, commit_of}
@@ -83,7 +82,7 @@ no_keep_at v b n e = and_no (live v n) (ap not (eq-eqb (kept (v.entry n b)) 0 e)
 
 -- "12 a dirty item not created": none is owned
 pub not_owned :
-    (g : Geometry) (v : View) → commit_admission g v ≡ Admitted → (b : ℕ) → b < g.items → (m : ℕ) → Owned v g.nodes b m → ⊥
+    (g : Geometry) (v : View) → commit_admission g v ≡ (Ok tt) → (b : ℕ) → b < g.items → (m : ℕ) → Owned v g.nodes b m → ⊥
 not_owned g v admitted b h m (modified_at o q) =
     no_both (or_right (eqb (current (v.entry m b)) owner) (eq-eqb (current (v.entry m b)) modified (has_code v b m modified o.holds)))
     (none_owned g v admitted m b (test_live g v m o.within (has_live v b m modified o.holds)) h)
@@ -100,7 +99,7 @@ pub record Saves (v w : View) (N b : ℕ) : Type 0 where
 
 module _
     (g : Geometry) (v w : View) (phase number : ℕ) (good : SoundTable g v phase number) (some : 0 < g.items)
-    (admitted : commit_admission g v ≡ Admitted) (keeps : KeptForward g v w) (z : CommitEnd g v w) where
+    (admitted : commit_admission g v ≡ (Ok tt)) (keeps : KeptForward g v w) (z : CommitEnd g v w) where
   -- "number (under 2^32 − 1 in phase 1)"
   room : number < 2 ^ 32 - 1
   room = good.number_room (commit_opened g v phase number good some admitted)
@@ -190,5 +189,5 @@ module _
   }
 
   -- the table after a whole Commit passes every check
-  pub commit_sound : fault_of (after g limit ss t) ≡ Passed g
+  pub commit_sound : fault_of (after g limit ss t) ≡ Ok g
   commit_sound = facts_accepted (after g limit ss t) g _ _ commit_accepted

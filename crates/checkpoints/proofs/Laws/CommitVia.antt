@@ -1,4 +1,5 @@
 -- Commit on a view: every store keeps every live entry's forward copy, form and frames, stage by stage.
+use Rattle.std.specs.Prelude.{Ok}
 use Prim.Native.Nat.{ℕ, ◌+◌, ◌%◌, ◌^◌, ◌<◌}
 use mathlib.Core.Path.{◌≡◌, refl, sym, ap, ◌∙◌}
 use mathlib.Core.Logic.{◌⊎◌, inl, inr}
@@ -12,9 +13,7 @@ use Rattle.table.proofs.Laws.Via.{Via, via_then, via_loosen, via_weaken}
 use Rattle.table.proofs.Laws.Pass.{Steps}
 use Rattle.table.proofs.Laws.MarksPass.{Mixed, Marking, marks_via}
 use Rattle.entries.proofs.Laws.SoundFacts.{SoundTable}
-use Rattle.checkpoints.specs.declared.checkpoint.Closing.TheVariants.{Committed}
-use Rattle.homes.specs.declared.admission.Admission.TheVariants.{Admitted}
-use Rattle.checkpoints.specs.Checkpoint.{entries_to, close_change}
+use Rattle.checkpoints.specs.Checkpoint.{entries_to, commit_change}
 use Rattle.checkpoints.specs.Commit.{running_mark, committing_mark, committed_mark, commit_stores, commit_admission}
 use Rattle.homes.proofs.Laws.SoundTells.{formed_at}
 use Rattle.homes.proofs.Laws.Kept.{Live, live_test, test_live}
@@ -34,7 +33,7 @@ same_number p m = omega arith
 closing_mark : (x : ℕ) → running_mark (committing_mark x) ≡ committed_mark x
 closing_mark x = ap (mark_word 0) (number_again 2 (number_of x + 1) (omega arith)) ∙ same_number 0 (number_of x + 1)
 
-module _ (g : Geometry) (v : View) (phase number : ℕ) (good : SoundTable g v phase number) (admitted : commit_admission g v ≡ Admitted) where
+module _ (g : Geometry) (v : View) (phase number : ℕ) (good : SoundTable g v phase number) (admitted : commit_admission g v ≡ (Ok tt)) where
   -- every entry, and the stage
   record Cut (w : View) : Type 0 where
     safe : (n b : ℕ) → Live g v n → b < g.items → SafeForward (v.entry n b) (w.entry n b)
@@ -54,8 +53,7 @@ module _ (g : Geometry) (v : View) (phase number : ℕ) (good : SoundTable g v p
   begin n b l h = record { forward = refl; form = formed_at g v phase number good n b l h; frames = omega arith }
 
   steps_at : (n b : ℕ) → Live g v n → b < g.items
-      → Steps (SafeForward (v.entry n b)) (Closed (v.entry n b)) (v.entry n b) (close_change Committed (v.entry n b))
-  unfolding close_change
+      → Steps (SafeForward (v.entry n b)) (Closed (v.entry n b)) (v.entry n b) (commit_change (v.entry n b))
   steps_at n b l h = commit_steps (v.entry n b) (formed_at g v phase number good n b l h) (none_owned g v admitted n b l h)
 
   -- ---- "each live mark, phase 2 and number plus 1, ascending"
@@ -71,10 +69,10 @@ module _ (g : Geometry) (v : View) (phase number : ℕ) (good : SoundTable g v p
     marks : (n : ℕ) → Live g v n → w.mark n ≡ committing_mark (v.mark n)
     dead_marks : (n : ℕ) → live v n ≡ false → w.mark n ≡ v.mark n
 
-  changing_via : (u : View) → Marking g v committing_mark g.nodes u → Via g Cut Entered u (entries_to g v (close_change Committed))
+  changing_via : (u : View) → Marking g v committing_mark g.nodes u → Via g Cut Entered u (entries_to g v commit_change)
   changing_via u m =
       via_weaken
-      (via_loosen (entries_via g v (close_change Committed) SafeForward Closed begin steps_at u m.entries)
+      (via_loosen (entries_via g v commit_change SafeForward Closed begin steps_at u m.entries)
       (λ w e. record { safe = e.entries; stage = changing (new w e.marks) (old w e.marks) }))
       (λ w _ a. record { lives = a.lives; deads = a.deads; marks = new w a.marks; dead_marks = old w a.marks })
     where

@@ -1,6 +1,7 @@
 -- The laws of `specs/code/CreateCode.antt`.
+use Rattle.std.specs.Prelude.{Err, Ok, Result}
 use Prim.Native.Nat.{ℕ, ◌<◌, ◌≤◌}
-use mathlib.Core.Path.{◌≡◌, refl, ap, ◌∙◌}
+use mathlib.Core.Path.{◌≡◌, refl, sym, ap, ◌∙◌}
 use mathlib.Core.Bool.{◌&&◌}
 use mathlib.Core.List.{List, [], ◌∷◌}
 use native.Mathlib.Omega.{arith}
@@ -10,13 +11,19 @@ use Rattle.counting.proofs.Laws.Tests.{both, and_both, bool_iff}
 use Rattle.counting.specs.Counting.{first}
 use Rattle.counting.proofs.Laws.First.{first_passes}
 use Rattle.table.specs.declared.geometry.Geometry.{Geometry}
+use Rattle.table.specs.declared.answers.Refusal.{Refusal}
 use Rattle.table.specs.declared.answers.Refusal.TheVariants.{NoHome}
+use Rattle.entries.specs.declared.check.Surveyed.{Surveyed}
+use Rattle.entries.specs.Check.{fault_of, surveyed_by, surveyed_of}
+use Rattle.entries.proofs.Laws.Check.{sound_passed}
+use Rattle.homes.specs.Admission.{Admission, plan_admitted, plan_checked, plan_by}
+use Rattle.checkpoints.specs.Checkpoint.{open_admission}
 use Rattle.table.specs.Words.{kept_of, shared, owner, modified, precommit1, precommit2}
 use Rattle.table.specs.Stores.{Stored, entry_store, state_to}
 use Rattle.table.proofs.Laws.Stores.{stored_then, stored_two}
 use Rattle.table.specs.View.{View, view}
 use Rattle.table.specs.declared.answers.Answer.{Answer}
-use Rattle.table.specs.Answers.{refuse, nothing_left, carry, Meets}
+use Rattle.table.specs.Answers.{Plan, refuse, nothing_left, carry, Meets}
 use Rattle.homes.proofs.Laws.Plans.{meets_as}
 use Rattle.homes.specs.declared.places.Place.TheVariants.{Current}
 use Rattle.homes.specs.declared.home.Arrival.{Arrival}
@@ -24,8 +31,8 @@ use Rattle.entries.specs.Dirty.{owner_of, dirty, dirty_item}
 use Rattle.homes.specs.Home.{home_of, arrival_of, home_stores, home_stores_by}
 use Rattle.homes.specs.Holders.{first_holder}
 use Rattle.homes.proofs.Laws.Holders.{holder_first, owner_held}
-use Rattle.checkpoints.specs.Create.{shares_at, sharer_of, precommit2_stores, create_item, no_partner, create_plan}
-use Rattle.checkpoints.specs.code.CreateCode.{item_plan, sharer_stores, taken_stores}
+use Rattle.checkpoints.specs.Create.{shares_at, sharer_of, precommit2_stores, create_item, no_partner, create_plan, create_of}
+use Rattle.checkpoints.specs.code.CreateCode.{opened_by, opened_checked, create_ready, item_plan, sharer_stores, taken_stores}
 
 -- ---- a sharer
 
@@ -39,6 +46,43 @@ sharer_codes c =
 pub sharer_held : (g : Geometry) (v : View) (b : ℕ) → first_holder g v b shared shared ≡ sharer_of g v b
 unfolding sharer_of shares_at
 sharer_held g v b = holder_first g v b shared shared (λ c. eqb c shared) sharer_codes
+
+-- ---- the table checks, then the refusals of Create but that of a home
+
+opened_same : (t : List ℕ) {s : Surveyed} (c : Result Surveyed Refusal) → opened_checked t c ≡ Ok s → c ≡ Ok s
+opened_same t (Err x) e = e
+opened_same t {s} (Ok r) e = go (open_admission r.g (view r.g t)) e
+  where
+    go : (a : Admission) → opened_by r a ≡ Ok s → ◌≡◌ {A = Result Surveyed Refusal} (Ok r) (Ok s)
+    go (Err x) e = let z : ◌≡◌ {A = ℕ} 0 1 = cc in absurd (omega arith)
+    go (Ok _) e = e
+
+abbrev opened_plan : List ℕ → Result Surveyed Refusal → Plan
+opened_plan t (Err x) = refuse x
+opened_plan t (Ok s) = create_plan s.g (view s.g t)
+
+create_planned : (t : List ℕ) (c : Result Geometry Refusal) → plan_checked open_admission create_plan t c ≡ opened_plan t (opened_checked t (surveyed_by t c))
+unfolding plan_checked plan_admitted surveyed_by
+create_planned t (Err x) = refl
+create_planned t (Ok g) = go (open_admission g (view g t))
+  where
+    go : (a : Admission) → plan_admitted a (create_plan g (view g t)) ≡ opened_plan t (opened_by (record { g = g; item = dirty_item g (view g t) }) a)
+    go (Err x) = refl
+    go (Ok _) = refl
+
+module _ (t : List ℕ) where
+  pub create_refused : {x : Refusal} → Err x ≡ create_ready t → create_of t ≡ refuse x
+  unfolding plan_by create_ready surveyed_of
+  create_refused e = create_planned t (fault_of t) ∙ ap (opened_plan t) (sym e)
+
+  module _ {s : Surveyed} (e : Ok s ≡ create_ready t) where
+    pub create_opened : create_of t ≡ create_plan s.g (view s.g t)
+    unfolding plan_by create_ready surveyed_of
+    create_opened = create_planned t (fault_of t) ∙ ap (opened_plan t) (sym e)
+
+    pub create_surveyed : s.item ≡ dirty_item s.g (view s.g t)
+    unfolding create_ready
+    create_surveyed = (sound_passed t refl (opened_same t (surveyed_of t) (sym e))).1
 
 -- ---- the item to be created
 

@@ -1,4 +1,5 @@
 -- "Answer 17, no stores, if none is left": Create gives it exactly if the table passes, a checkpoint is open and no item is dirty.
+use Rattle.std.specs.Prelude.{Err, Ok, Result}
 use Prim.Native.Nat.{ℕ, ◌<◌}
 use mathlib.Core.Path.{◌≡◌, refl, sym, ◌∙◌}
 use mathlib.Core.Bool.{Bool, true, false, cond, not}
@@ -8,16 +9,13 @@ use lib.Dec.{ltb}
 use borrow.Author.Tests.{ltb-false, le-ltb}
 use Rattle.counting.proofs.Laws.First.{first_least, first_none}
 use Rattle.table.specs.declared.geometry.Geometry.{Geometry}
+use Rattle.table.specs.declared.answers.Refusal.{Refusal}
 use Rattle.table.specs.declared.answers.Refusal.TheVariants.{NoHome, NoCheckpoint}
 use Rattle.table.specs.View.{View, view}
 use Rattle.table.specs.Answers.{refuse, nothing_left, carry}
-use Rattle.entries.specs.declared.check.Checked.{Checked}
-use Rattle.entries.specs.declared.check.Checked.TheVariants.{Passed, Failed}
 use Rattle.entries.specs.Check.{fault_of}
-use Rattle.homes.specs.declared.admission.Admission.{Admission}
-use Rattle.homes.specs.declared.admission.Admission.TheVariants.{Admitted, Turned}
 use Rattle.homes.proofs.Laws.Admission.{asked}
-use Rattle.homes.specs.Admission.{plan_admitted, plan_checked, plan_by}
+use Rattle.homes.specs.Admission.{Admission, plan_admitted, plan_checked, plan_by}
 use Rattle.homes.proofs.Laws.Plans.{plan_admitted_lem}
 use Rattle.entries.specs.Dirty.{dirty, dirty_item}
 use Rattle.checkpoints.specs.Checkpoint.{is_open, open_admission}
@@ -25,7 +23,7 @@ use Rattle.checkpoints.specs.Create.{create_stores, no_partner, create_plan, cre
 
 pub record NoneLeft (t : List ℕ) : Type 0 where
   pub geometry : Geometry
-  pub passed : fault_of t ≡ Passed geometry
+  pub passed : fault_of t ≡ Ok geometry
   pub opened : is_open geometry (view geometry t) ≡ true
   pub clean : (b : ℕ) → b < geometry.items → dirty geometry (view geometry t) b ≡ false
 
@@ -56,7 +54,7 @@ none_is_dirty : (g : Geometry) (v : View) → create_plan g v ≡ nothing_left �
 unfolding dirty_item
 none_is_dirty g v e b h = first_least (dirty g v) g.items b (omega (arith, ltb-false (dirty_item g v) g.items (plan_none g v e)))
 
-admitted_open : (g : Geometry) (v : View) → open_admission g v ≡ Admitted → is_open g v ≡ true
+admitted_open : (g : Geometry) (v : View) → open_admission g v ≡ (Ok tt) → is_open g v ≡ true
 unfolding open_admission
 admitted_open g v = asked (is_open g v) NoCheckpoint
 
@@ -65,16 +63,16 @@ unfolding plan_by plan_checked plan_admitted
 nothing_left_lem t e = checked (fault_of t) refl e
   where
     admitted :
-        (g : Geometry) → fault_of t ≡ Passed g → (a : Admission) → a ≡ open_admission g (view g t) → plan_admitted a (create_plan g (view g t)) ≡ nothing_left
+        (g : Geometry) → fault_of t ≡ Ok g → (a : Admission) → a ≡ open_admission g (view g t) → plan_admitted a (create_plan g (view g t)) ≡ nothing_left
         → NoneLeft t
-    admitted g p (Turned r) k e = let z : ◌≡◌ {A = ℕ} 0 1 = cc in absurd (omega arith)
-    admitted g p Admitted k e = record {
+    admitted g p (Err r) k e = let z : ◌≡◌ {A = ℕ} 0 1 = cc in absurd (omega arith)
+    admitted g p (Ok _) k e = record {
       geometry = g;
       passed = p;
       opened = admitted_open g (view g t) (sym k);
       clean = none_is_dirty g (view g t) e;
     }
 
-    checked : (c : Checked) → c ≡ fault_of t → plan_checked open_admission create_plan t c ≡ nothing_left → NoneLeft t
-    checked (Failed r) p e = let z : ◌≡◌ {A = ℕ} 0 1 = cc in absurd (omega arith)
-    checked (Passed g) p e = admitted g (sym p) (open_admission g (view g t)) refl e
+    checked : (c : Result Geometry Refusal) → c ≡ fault_of t → plan_checked open_admission create_plan t c ≡ nothing_left → NoneLeft t
+    checked (Err r) p e = let z : ◌≡◌ {A = ℕ} 0 1 = cc in absurd (omega arith)
+    checked (Ok g) p e = admitted g (sym p) (open_admission g (view g t)) refl e

@@ -1,6 +1,7 @@
 -- THE THEOREM of frames for four copies. A home can drop a Shared copy and no other: the others are pinned. A clean
 -- item has two pinned copies, a dirty one three, a created one four. So while at most one node is dead the live nodes
 -- but the owner are not all full of them, and one of them takes the second Precommit.
+use Rattle.std.specs.Prelude.{Ok}
 use Prim.Native.Nat.{ℕ, ◌*◌, ◌≤◌, ◌<◌}
 use mathlib.Core.Path.{◌≡◌, refl}
 use mathlib.Core.Logic.{◌≢◌, ◌⊎◌, inl, inr, ⊎_elim}
@@ -17,7 +18,6 @@ use Rattle.table.specs.Geometry.{allowed}
 use Rattle.table.proofs.Laws.Geometry.{four_copies_lem}
 use Rattle.table.specs.View.{View, view, live, current}
 use Rattle.table.specs.Answers.{refuse, nothing_left, carry, refusal_number}
-use Rattle.entries.specs.declared.check.Checked.TheVariants.{Passed}
 use Rattle.entries.specs.Check.{fault_of}
 use Rattle.entries.specs.Dirty.{owns, owner_of, dirty_item}
 use Rattle.entries.proofs.Laws.SoundFacts.{SoundTable}
@@ -49,7 +49,7 @@ module _ (g : Geometry) (v : View) (phase number b o : ℕ) (good : SoundTable g
 
 -- ---- the table
 
-module _ (t : List ℕ) (g : Geometry) (passed : fault_of t ≡ Passed g)
+module _ (t : List ℕ) (g : Geometry) (passed : fault_of t ≡ Ok g)
     (room : (dead_nodes g (view g t) ≤ 1) ⊎ (2 * g.items ≤ g.frames)) where
   abbrev v : View
   v = view g t

@@ -1,5 +1,6 @@
 -- A whole create leaves a sound table: the dirty item is created, Precommit1 at its owner and Precommit2 at its partner; a Shared copy of
 -- another item may be dropped for it.
+use Rattle.std.specs.Prelude.{Ok}
 use Prim.Native.Nat.{ℕ, ◌≤◌, ◌<◌}
 use mathlib.Core.Path.{◌≡◌, refl, sym, ap, ◌∙◌}
 use mathlib.Core.Logic.{◌≢◌}
@@ -17,7 +18,6 @@ use Rattle.table.specs.Stores.{Store, state_to, after}
 use Rattle.table.proofs.Laws.Stores.{All, all_then}
 use Rattle.table.specs.View.{View, view, live, current, kept}
 use Rattle.table.specs.Answers.{carry}
-use Rattle.entries.specs.declared.check.Checked.TheVariants.{Passed}
 use Rattle.entries.specs.Check.{fault_of}
 use Rattle.entries.specs.Tally.{copy}
 use Rattle.entries.proofs.Laws.Kinds.{clean_code, owner_code, created_code, Owned, modified_at, owner_at, Dirty, Created, Kind, clean, dirty, created, has_at_lem, has_code, has_live, copy_at, copy_live, copy_code}
@@ -222,5 +222,5 @@ module _
   }
 
   -- the table after a whole create passes every check
-  pub create_sound : fault_of (after g limit ss t) ≡ Passed g
+  pub create_sound : fault_of (after g limit ss t) ≡ Ok g
   create_sound = facts_accepted (after g limit ss t) g _ _ create_accepted

@@ -1,4 +1,5 @@
 -- THE THEOREM of Create: however it is cut, a roll back finds every recovery copy as it was. And what a whole one leaves.
+use Rattle.std.specs.Prelude.{Ok}
 use Prim.Native.Nat.{ℕ, ◌≤◌, ◌<◌}
 use mathlib.Core.Path.{◌≡◌}
 use mathlib.Core.Bool.{false}
@@ -9,7 +10,6 @@ use Rattle.table.specs.Stores.{Store, after}
 use Rattle.table.specs.View.{view}
 use Rattle.table.proofs.Laws.Via.{via_cut, via_whole}
 use Rattle.table.specs.Answers.{carry}
-use Rattle.entries.specs.declared.check.Checked.TheVariants.{Passed}
 use Rattle.entries.specs.Check.{fault_of}
 use Rattle.entries.proofs.Laws.SoundFacts.{phase_in, number_in}
 use Rattle.entries.proofs.Laws.CheckFacts.{Accepted, accepted_facts}
@@ -28,7 +28,7 @@ module _ (t : List ℕ) {g : Geometry} {value : ℕ} {ss : List Store} (accepted
   pub creates : Creates acted.geometry (view acted.geometry t) g value ss
   creates = plan_creates acted.geometry (view acted.geometry t) acted.plan
 
-  pub passed : fault_of t ≡ Passed g
+  pub passed : fault_of t ≡ Ok g
   passed = rw creates.same at acted.passed
 
   pub some : dirty_item g (view g t) < g.items

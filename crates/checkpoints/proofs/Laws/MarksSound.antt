@@ -1,4 +1,6 @@
 -- A call that stores marks keeps the table sound: what must be shown is the phase and the number of the new marks, and the kind of each item.
+use Rattle.homes.specs.Admission.{Admission}
+use Rattle.std.specs.Prelude.{Err, Ok}
 use Prim.Native.Nat.{ℕ, ◌-◌, ◌*◌, ◌/◌, ◌%◌, ◌^◌, ◌<◌, ◌≤◌}
 use mathlib.Core.Path.{◌≡◌, refl, sym, ap, ◌∙◌}
 use mathlib.Core.Bool.{Bool, true, false, cond}
@@ -22,8 +24,6 @@ use Rattle.entries.specs.Frames.{sets_of, set_frames, used}
 use Rattle.entries.proofs.Laws.Kinds.{Kind}
 use Rattle.entries.proofs.Laws.SoundFacts.{SoundTable}
 use Rattle.entries.proofs.Laws.CheckFacts.{sound_pair}
-use Rattle.homes.specs.declared.admission.Admission.{Admission}
-use Rattle.homes.specs.declared.admission.Admission.TheVariants.{Admitted, Turned}
 use Rattle.checkpoints.specs.Checkpoint.{common_mark, is_open, open_admission, live_changes, entries_before, entries_to}
 use Rattle.checkpoints.specs.Open.{start_admission}
 use Rattle.checkpoints.specs.Commit.{created_admission, commit_admission}
@@ -78,7 +78,7 @@ module _ (g : Geometry) (v : View) (phase number : ℕ) (good : SoundTable g v p
   number_fits = let e = common_number in omega arith
 
   -- "7", "13"
-  pub started : start_admission g v ≡ Admitted → (phase ≡ 0) × (number < 2 ^ 32 - 1)
+  pub started : start_admission g v ≡ (Ok tt) → (phase ≡ 0) × (number < 2 ^ 32 - 1)
   unfolding start_admission is_open
   started h =
       let (p, h₁) = passed (eqb (phase_of (common_mark g v)) 1) CheckpointOpen _ h in
@@ -94,17 +94,17 @@ module _ (g : Geometry) (v : View) (phase number : ℕ) (good : SoundTable g v p
       below· e d l = omega arith
 
   -- "8"
-  pub opened : open_admission g v ≡ Admitted → phase ≡ 1
+  pub opened : open_admission g v ≡ (Ok tt) → phase ≡ 1
   unfolding open_admission is_open
   opened h = sym common_phase ∙ eqb-true (phase_of (common_mark g v)) 1 (asked (eqb (phase_of (common_mark g v)) 1) NoCheckpoint h)
 
-  pub commit_opened : commit_admission g v ≡ Admitted → phase ≡ 1
+  pub commit_opened : commit_admission g v ≡ (Ok tt) → phase ≡ 1
   unfolding created_admission
   commit_opened h = opened (go (open_admission g v) h)
     where
-      go : (a : Admission) → created_admission g v a ≡ Admitted → a ≡ Admitted
-      go (Turned x) e = let z : ◌≡◌ {A = ℕ} 0 1 = cc in absurd (omega arith)
-      go Admitted e = refl
+      go : (a : Admission) → created_admission g v a ≡ (Ok tt) → a ≡ (Ok tt)
+      go (Err x) e = let z : ◌≡◌ {A = ℕ} 0 1 = cc in absurd (omega arith)
+      go (Ok _) e = refl
 
 -- ---- the table
 

@@ -1,4 +1,5 @@
 -- A whole Open leaves a sound table, in phase 1: every item is of its kind still.
+use Rattle.std.specs.Prelude.{Ok}
 use Prim.Native.Nat.{ℕ, ◌≤◌, ◌<◌}
 use mathlib.Core.Path.{◌≡◌, ap, ◌∙◌}
 use mathlib.Core.List.{List}
@@ -10,12 +11,10 @@ use Rattle.table.specs.Stores.{Store, after}
 use Rattle.table.specs.View.{View, view}
 use Rattle.table.proofs.Laws.MarksPass.{Marking}
 use Rattle.table.specs.Answers.{carry}
-use Rattle.entries.specs.declared.check.Checked.TheVariants.{Passed}
 use Rattle.entries.specs.Check.{fault_of}
 use Rattle.entries.proofs.Laws.Kinds.{Kind, clean, dirty, created}
 use Rattle.entries.proofs.Laws.SoundFacts.{SoundTable, number_in}
 use Rattle.entries.proofs.Laws.CheckFacts.{Accepted, facts_accepted}
-use Rattle.homes.specs.declared.admission.Admission.TheVariants.{Admitted}
 use Rattle.checkpoints.specs.Open.{creating_mark, start_admission, open_of}
 use Rattle.homes.proofs.Laws.Kept.{live_test}
 use Rattle.checkpoints.proofs.Laws.KeptMarks.{KeptEntries}
@@ -26,7 +25,7 @@ use Rattle.checkpoints.proofs.Laws.OpenTheorem.{carried, facts, open_keeps, open
 
 module _
     (g : Geometry) (v w : View) (phase number : ℕ) (good : SoundTable g v phase number) (some : 0 < g.items)
-    (admitted : start_admission g v ≡ Admitted) (kept : KeptEntries g v w) (m : Marking g v creating_mark g.nodes w) where
+    (admitted : start_admission g v ≡ (Ok tt)) (kept : KeptEntries g v w) (m : Marking g v creating_mark g.nodes w) where
   pub open_marks : NewMarks g v w 1 number
   open_marks = record {
     lives = λ n l. m.new n l.there (live_test g v n l) ∙ ap (mark_word 1) (good.numbers n l.there (live_test g v n l));
@@ -58,5 +57,5 @@ module _
   }
 
   -- the table after a whole Open passes every check
-  pub open_sound : fault_of (after g limit ss t) ≡ Passed g
+  pub open_sound : fault_of (after g limit ss t) ≡ Ok g
   open_sound = facts_accepted (after g limit ss t) g _ _ open_accepted

@@ -1,5 +1,6 @@
 -- The steps of a save on a table that passes its checks: Open leaves the dirty items as they are; with at most one node
 -- dead each Create is carried out and leaves one fewer, and none after the last; then Commit is carried out.
+use Rattle.std.specs.Prelude.{Ok}
 use Prim.Native.Nat.{ℕ, ◌+◌, ◌-◌, ◌^◌, ◌≤◌, ◌<◌}
 use mathlib.Core.Path.{◌≡◌, refl, sym, ap, ap₂, ◌∙◌}
 use mathlib.Core.Logic.{◌≢◌, inl}
@@ -19,12 +20,10 @@ use Rattle.table.specs.Words.{phase_of, number_of, invalid}
 use Rattle.table.specs.Stores.{Store, after}
 use Rattle.table.specs.View.{View, view, live, current}
 use Rattle.table.specs.Answers.{nothing_left, carry}
-use Rattle.entries.specs.declared.check.Checked.TheVariants.{Passed}
 use Rattle.entries.specs.Check.{fault_of}
 use Rattle.entries.specs.Dirty.{owns, owns_at, owner_of, dirty, dirty_item}
 use Rattle.entries.proofs.Laws.Kinds.{created_code, Created, copy_at}
 use Rattle.entries.proofs.Laws.SoundFacts.{SoundTable}
-use Rattle.homes.specs.declared.admission.Admission.TheVariants.{Admitted}
 use Rattle.homes.proofs.Laws.Placed.{placed_current}
 use Rattle.homes.proofs.Laws.Plans.{plan_admitted_lem}
 use Rattle.homes.proofs.Laws.Kept.{live_test}
@@ -164,7 +163,7 @@ module _
 
 -- ---- on a table that passes its checks
 
-module _ (t : List ℕ) (g : Geometry) (passed : fault_of t ≡ Passed g) where
+module _ (t : List ℕ) (g : Geometry) (passed : fault_of t ≡ Ok g) where
   abbrev v : View
   v = view g t
 
@@ -178,7 +177,7 @@ module _ (t : List ℕ) (g : Geometry) (passed : fault_of t ≡ Passed g) where
       (rw (shut, ne_eqb (number_of (common_mark g v)) (2 ^ 32 - 1) (λ z. omega (arith, room, e, z))) refl)
 
   module _ (opened : is_open g v ≡ true) where
-    admitted : open_admission g v ≡ Admitted
+    admitted : open_admission g v ≡ (Ok tt)
     unfolding open_admission
     admitted = rw opened refl
 

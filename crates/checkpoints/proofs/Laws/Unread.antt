@@ -1,5 +1,7 @@
 -- "A dead node's words, mark apart, are never read", by Open, Create, Commit and Abandon: their plans do not rest on
 -- them.
+use Rattle.homes.specs.Admission.{Admission}
+use Rattle.std.specs.Prelude.{Err, Ok}
 use Prim.Native.Nat.{ℕ, ◌*◌, ◌/◌, ◌%◌, ◌<◌}
 use mathlib.Core.Path.{◌≡◌, refl, ap}
 use mathlib.Core.Bool.{true, cond, not}
@@ -17,13 +19,10 @@ use Rattle.table.specs.View.{Entry, View, live, current, mark_to, marks_to}
 use Rattle.table.specs.Answers.{carry}
 use Rattle.entries.specs.Dirty.{owns_at, owner_of, dirty_item, none_dirty}
 use Rattle.entries.proofs.Laws.Unread.{over, Agrees, Alike, same_first, same_found, same_owner, same_dirty}
-use Rattle.homes.specs.declared.admission.Admission.{Admission}
-use Rattle.homes.specs.declared.admission.Admission.TheVariants.{Admitted, Turned}
 use Rattle.homes.specs.declared.places.Place.TheVariants.{Current}
 use Rattle.homes.specs.Home.{home_of}
 use Rattle.homes.proofs.Laws.Unread.{same_home, same_home_stores, home_live, plan_alike}
-use Rattle.checkpoints.specs.declared.checkpoint.Closing.TheVariants.{Committed, Abandoned}
-use Rattle.checkpoints.specs.Checkpoint.{common_mark, is_open, open_admission, live_changes, entries_before, entries_to, close_change}
+use Rattle.checkpoints.specs.Checkpoint.{common_mark, is_open, open_admission, live_changes, entries_before, entries_to, commit_change, abandon_change}
 use Rattle.checkpoints.specs.Open.{start_admission, open_of}
 use Rattle.checkpoints.specs.Create.{shares_at, sharer_of, precommit2_stores, create_item, no_partner, create_plan, create_of}
 use Rattle.checkpoints.specs.Commit.{committing_mark, committed_mark, commit_stores, created_admission, commit_admission, commit_of, running_mark, abandon_stores, abandon_of}
@@ -63,18 +62,18 @@ module _ (g : Geometry) (v : View) (e : ℕ → ℕ → Entry) (s : Agrees g v e
   commit_admission_lem = go (open_admission g v)
     where
       go : (a : Admission) → created_admission g (over v e) a ≡ created_admission g v a
-      go (Turned x) = refl
-      go Admitted = ap (λ n. cond (not (ltb n g.items)) Admitted (Turned NotCreated)) (same_dirty g v e s)
+      go (Err x) = refl
+      go (Ok _) = ap (λ n. cond (not (ltb n g.items)) (Ok tt) (Err NotCreated)) (same_dirty g v e s)
 
   commit_stores_lem : commit_stores g (over v e) ≡ commit_stores g v
   unfolding commit_stores marks_to mark_to
   commit_stores_lem =
       ap (λ (ss : List Store). (marks_to g v committing_mark ++ ss) ++ marks_to g v committed_mark)
-      (same_entries_to (close_change Committed))
+      (same_entries_to commit_change)
 
   abandon_stores_lem : abandon_stores g (over v e) ≡ abandon_stores g v
   unfolding abandon_stores marks_to mark_to
-  abandon_stores_lem = ap (λ (ss : List Store). ss ++ marks_to g v running_mark) (same_entries_to (close_change Abandoned))
+  abandon_stores_lem = ap (λ (ss : List Store). ss ++ marks_to g v running_mark) (same_entries_to abandon_change)
 
   -- ---- Create: the owner and a sharer are live, and so is a home
 

@@ -2,8 +2,10 @@
 use Rattle.std.specs.Prelude.{ℕ, ◌<◌, ◌≤◌, ◌≡◌, List, length, true}
 use Rattle.table.specs.declared.geometry.Geometry.{Geometry}
 use Rattle.table.specs.Geometry.{words_of, entry_at}
-use Rattle.table.specs.Stores.{Stored}
-use Rattle.table.specs.View.{view, live, marks_to}
+use Rattle.table.specs.declared.stores.Stores.{Stores}
+use Rattle.table.specs.Stores.{Stored, runs}
+use Rattle.table.specs.Made.{shown}
+use Rattle.table.specs.View.{view, live, mark_to}
 use Rattle.checkpoints.specs.Checkpoint.{common_mark}
 
 -- the place of the state word of an entry that is there, in a table that has all its words
@@ -22,7 +24,12 @@ pub record Agreed (g : Geometry) (t : List ℕ) : Type 0 where
 
 -- ---- the marks that are stored: one word
 
--- what the code that stores a word on every live mark makes of a table, if that has all its words
-pub record MarksStored (g : Geometry) (left word : ℕ) (t t₁ : List ℕ) (left₁ : ℕ) : Type 0 where
-  pub size : length t₁ ≡ length t
-  pub stored : words_of g ≤ length t → Stored g left (marks_to g (view g t) (λ w. word)) t t₁ left₁
+-- what the code that stores a word on every live mark of the nodes before k makes of a table, if that has all its
+-- words
+pub record MarksStored (s : Stores) (word k : ℕ) (s' : Stores) : Type 0 where
+  pub same_reference : s'.table.ghost_name ≡ s.table.ghost_name
+  pub same_geometry : s'.g ≡ s.g
+  pub size : length s'.table.now ≡ length s.table.now
+  pub stored :
+      words_of s.g ≤ length s.table.now
+      → Stored s.g s.left (runs (mark_to (shown s) (λ w. word)) k) s.table.now s'.table.now s'.left

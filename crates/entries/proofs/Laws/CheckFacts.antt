@@ -1,5 +1,6 @@
 -- What an accepted table is: its geometry, its length and its soundness, as facts; each item has exactly two recovery copies. And back: a table
 -- with these facts is accepted.
+use Rattle.std.specs.Prelude.{Err, None, Ok, Option, Result, Some}
 use Prim.Native.Nat.{ℕ, ◌/◌, ◌%◌, ◌^◌, ◌<◌, ◌≤◌}
 use mathlib.Core.Logic.{◌≢◌, ◌⊎◌}
 use mathlib.Core.Path.{◌≡◌, refl, sym, ap, ◌∙◌}
@@ -11,10 +12,6 @@ use lib.ListN.{length, get_or}
 use borrow.Author.Tests.{eqb-true, leb-true}
 use Rattle.counting.proofs.Laws.Tests.{both, by_cases}
 use Rattle.table.specs.declared.geometry.Geometry.{Geometry}
-use Rattle.table.specs.declared.geometry.Made.{Made}
-use Rattle.table.specs.declared.geometry.Made.TheVariants.{Allowed, NotAllowed}
-use Rattle.entries.specs.declared.check.Checked.{Checked}
-use Rattle.entries.specs.declared.check.Checked.TheVariants.{Passed, Failed}
 use Rattle.table.specs.declared.answers.Refusal.{Refusal}
 use Rattle.table.specs.Words.{size_word, size_form, nodes_of, items_of, frames_of}
 use Rattle.table.proofs.Laws.Words.{size_parts, nodes_size, items_size, frames_size}
@@ -38,10 +35,10 @@ pub record Shape (t : List ℕ) (g : Geometry) : Type 0 where
   pub sizes : Sized g.nodes g.items g.frames
   pub long : words_of g ≤ length t
 
-never_passed : {x : Refusal} {g : Geometry} → Failed x ≡ Passed g → ⊥
+never_passed : {x : Refusal} {g : Geometry} → Err x ≡ Ok g → ⊥
 never_passed e = let z : ◌≡◌ {A = ℕ} 0 1 = cc in omega arith
 
-pub sizes_facts : (t : List ℕ) (g : Geometry) → sizes_of t ≡ Passed g → Shape t g
+pub sizes_facts : (t : List ℕ) (g : Geometry) → sizes_of t ≡ Ok g → Shape t g
 unfolding sizes_of length_of
 sizes_facts t g h = by_cases (eqb (length t) 0) (λ e. absurd (never_passed (rw e at h)))
     (λ e. by_cases (size_form w)
@@ -51,10 +48,10 @@ sizes_facts t g h = by_cases (eqb (length t) 0) (λ e. absurd (never_passed (rw 
     w : ℕ
     w = get_or t 0 0
 
-    from_made : size_form w ≡ true → (m : Made) → m ≡ made_of t → length_of t m ≡ Passed g → Shape t g
-    from_made f NotAllowed q k = absurd (never_passed k)
-    from_made f (Allowed a) q k = by_cases (leb (words_of a) (length t))
-        (λ l. let k' : Passed a ≡ Passed g = rw l at k in
+    from_made : size_form w ≡ true → (m : Option Geometry) → m ≡ made_of t → length_of t m ≡ Ok g → Shape t g
+    from_made f None q k = absurd (never_passed k)
+    from_made f (Some a) q k = by_cases (leb (words_of a) (length t))
+        (λ l. let k' : Ok a ≡ Ok g = rw l at k in
         let same : a ≡ g = cc in
         let mk = made_allowed (nodes_of w) (items_of w) (frames_of w) a (sym q) in
         let e : g ≡ record { nodes = nodes_of w; items = items_of w; frames = frames_of w } = sym same ∙ mk.1 in
@@ -67,17 +64,17 @@ sizes_facts t g h = by_cases (eqb (length t) 0) (λ e. absurd (never_passed (rw 
         })
         (λ l. absurd (never_passed (rw l at k)))
 
-pub sizes_surveyable : (t : List ℕ) (g : Geometry) → sizes_of t ≡ Passed g → Surveyable g t
+pub sizes_surveyable : (t : List ℕ) (g : Geometry) → sizes_of t ≡ Ok g → Surveyable g t
 sizes_surveyable t g h =
     let s = sizes_facts t g h in
     record { words = s.long; nodes = s.sizes.nodes_high; items = s.sizes.items_high; frames = s.sizes.frames_high }
 
-pub facts_sizes : (t : List ℕ) (g : Geometry) → Shape t g → sizes_of t ≡ Passed g
+pub facts_sizes : (t : List ℕ) (g : Geometry) → Shape t g → sizes_of t ≡ Ok g
 facts_sizes t g s =
     let hn : g.nodes < 2 ^ 5 = omega (arith, s.sizes) in
     let hm : g.items < 2 ^ 9 = omega (arith, s.sizes) in
     let hf : g.frames < 2 ^ 10 = omega (arith, s.sizes) in
-    sym (sizes_passed t (λ z. omega (arith, s.long)) (rw s.word (size_form_lem _ _ _ hn hm hf)) g
+    sym (sizes_passed t (omega (arith, s.long)) (rw s.word (size_form_lem _ _ _ hn hm hf)) g
     (rw (s.word, nodes_size g.nodes g.items g.frames hn hm hf, items_size g.nodes g.items g.frames hn hm hf, frames_size g.nodes g.items g.frames hn hm hf)
     (allowed_made g.nodes g.items g.frames s.fair))
     s.long)
@@ -89,21 +86,21 @@ pub record Accepted (t : List ℕ) (g : Geometry) (phase number : ℕ) : Type 0 
   pub table : SoundTable g (view g t) phase number
 
 module _ (t : List ℕ) (g : Geometry) where
-  pub accepted_facts : fault_of t ≡ Passed g → Accepted t g (phase_in g (view g t)) (number_in g (view g t))
+  pub accepted_facts : fault_of t ≡ Ok g → Accepted t g (phase_in g (view g t)) (number_in g (view g t))
   unfolding fault_of sound_of
   accepted_facts h = from_sizes (sizes_of t) refl h
     where
-      from_sizes : (s : Checked) → s ≡ sizes_of t → sound_of t s ≡ Passed g → Accepted t g (phase_in g (view g t)) (number_in g (view g t))
-      from_sizes (Failed x) e h = absurd (never_passed h)
-      from_sizes (Passed a) e h = by_cases (sound a (view a t))
-          (λ y. let h' : Passed a ≡ Passed g = rw y at h in
+      from_sizes : (s : Result Geometry Refusal) → s ≡ sizes_of t → sound_of t s ≡ Ok g → Accepted t g (phase_in g (view g t)) (number_in g (view g t))
+      from_sizes (Err x) e h = absurd (never_passed h)
+      from_sizes (Ok a) e h = by_cases (sound a (view a t))
+          (λ y. let h' : Ok a ≡ Ok g = rw y at h in
           let same : a ≡ g = cc in
           let all : Accepted t a (phase_in a (view a t)) (number_in a (view a t)) =
           record { shape = sizes_facts t a (sym e); table = sound_facts a (view a t) y } in
           rw same at all)
           (λ y. absurd (never_passed (rw y at h)))
 
-  pub facts_accepted : (phase number : ℕ) → Accepted t g phase number → fault_of t ≡ Passed g
+  pub facts_accepted : (phase number : ℕ) → Accepted t g phase number → fault_of t ≡ Ok g
   unfolding fault_of sound_of
   facts_accepted phase number k =
       let sz = k.shape.sizes in

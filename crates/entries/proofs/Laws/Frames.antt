@@ -3,7 +3,7 @@ use Prim.Native.Nat.{ℕ, ◌+◌, ◌*◌, ◌<◌, ◌≤◌}
 use mathlib.Core.Path.{◌≡◌, sym, ap, ap₂, ◌∙◌}
 use mathlib.Core.Bool.{Bool, true, false, cond, ◌&&◌, ◌||◌}
 use native.Mathlib.Omega.{arith}
-use lib.Dec.{eqb, leb, ltb}
+use lib.Dec.{eqb, ltb}
 use borrow.Author.Tests.{eq-eqb, ne_eqb, ltb-true, lt-ltb, leb-true}
 use Rattle.counting.proofs.Laws.Tests.{both, by_cases, other_holds}
 use Rattle.counting.proofs.Laws.Crowded.{sum_most, sum_fewer}
@@ -81,10 +81,6 @@ module _ (g : Geometry) (v : View) (n : ℕ) where
       lt-ltb _ (set_frames g) (omega (arith, fewer, leb-true (2 * g.items) (set_frames g) here.1))
 
 -- the ways of the code
-pub ample_read : (g : Geometry) (b : ℕ) {f : ℕ} → f ≡ set_frames g → (ltb b g.items && leb (2 * g.items) f) ≡ ample_for g b
-unfolding ample_for
-ample_read g b e = ap (λ f. ltb b g.items && leb (2 * g.items) f) e
-
 module _ (g : Geometry) (v : View) (n b : ℕ) where
   pub free_told :
       {a : Bool} {w c k : ℕ} → a ≡ ample_for g b → w ≡ (v.entry n b).state → c ≡ current_of w → k ≡ kept_of w

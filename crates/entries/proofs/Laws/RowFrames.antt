@@ -1,52 +1,33 @@
 -- Laws of `specs/code/Row.antt`: the frames of a row.
-use Prim.Native.Nat.{ℕ, ◌+◌, ◌*◌, ◌/◌, ◌%◌, ◌<◌, ◌≤◌}
+use Prim.Native.Nat.{ℕ, ◌+◌, ◌*◌, ◌/◌, ◌%◌, ◌≤◌}
 use mathlib.Core.Path.{◌≡◌, refl, ap, ◌∙◌}
-use mathlib.Core.Bool.{Bool, true, ◌&&◌}
+use mathlib.Core.Bool.{true, ◌&&◌}
 use mathlib.Core.List.{List}
 use native.Mathlib.Omega.{arith}
 use lib.Dec.{eqb, leb, ltb}
-use lib.ListN.{length, get_or}
+use lib.ListN.{get_or}
 use borrow.Author.Tests.{eqb-true, ltb-true, leb-true}
 use Rattle.counting.proofs.Laws.Tests.{both}
-use Rattle.counting.specs.Counting.{every}
-use Rattle.counting.proofs.Laws.Counting.{every_at, sum_none, sum_next, sum_ext}
+use Rattle.counting.proofs.Laws.Counting.{sum_none, sum_next, sum_ext}
 use Rattle.table.specs.declared.geometry.Geometry.{Geometry}
 use Rattle.table.specs.Geometry.{Placed}
 use Rattle.table.specs.View.{view}
 use Rattle.entries.specs.Frames.{sets_of, frame_of, frames_in, used}
 use Rattle.entries.proofs.Laws.Frames.{set_there, frames_here}
-use Rattle.entries.specs.code.Row.{top_of, frame_digits, row_frames, four_frames}
+use Rattle.entries.specs.code.Row.{top_of, row_frames, four_frames}
 use Rattle.entries.proofs.Laws.Row.{quarter, row_read, row_state_lem}
 
 -- ---- an entry
 
 -- the frames of an entry by its six top bits
-abbrev code_frames : ℕ → ℕ
+abbrev pub code_frames : ℕ → ℕ
 code_frames i = frame_of (i / 4) + frame_of (i % 4)
 
-abbrev digit_rule : ℕ → Bool
-digit_rule i = eqb (get_or frame_digits i 0) (48 + code_frames i)
-
-pub frame_digit : (w : ℕ) → top_of w < 64 → get_or frame_digits (top_of w) 0 ≡ 48 + frames_in w
-unfolding every frames_in
-frame_digit w h = eqb-true _ _ (every_at 64 digit_rule refl (top_of w) h) ∙ rw (quarter w) refl
-
--- the code reads the digits in a slice
-module _ {digits : List ℕ} (e : digits ≡ frame_digits) where
-  pub digits_long : length digits ≡ 64
-  digits_long = ap length e
-
-  pub digit_read : (w : ℕ) → top_of w < 64 → get_or digits (top_of w) 0 ≡ 48 + frames_in w
-  digit_read w h = ap (λ l. get_or l (top_of w) 0) e ∙ frame_digit w h
+pub frames_top : (w : ℕ) → code_frames (top_of w) ≡ frames_in w
+unfolding frames_in
+frames_top w = rw (quarter w) refl
 
 -- ---- a row
-
-pub four_read :
-    (t : List ℕ) (at : ℕ) {f₀ f₁ f₂ f₃ : ℕ}
-    → f₀ ≡ frames_in (get_or t at 0) → f₁ ≡ frames_in (get_or t (at + 3) 0) → f₂ ≡ frames_in (get_or t (at + 6) 0) → f₃ ≡ frames_in (get_or t (at + 9) 0)
-    → f₀ + f₁ + (f₂ + f₃) ≡ four_frames t at
-unfolding four_frames
-four_read t at e₀ e₁ e₂ e₃ = rw (e₀, e₁, e₂, e₃) refl
 
 module _ (t : List ℕ) (start : ℕ) where
   pub row_frames_none : 0 ≡ row_frames t start 0

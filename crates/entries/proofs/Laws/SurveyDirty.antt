@@ -1,7 +1,9 @@
 -- The laws of `specs/code/SurveyDirty.antt`.
+use Rattle.std.specs.Prelude.{Option, Some, None}
+use Rattle.std.specs.Bool.{then_some}
 use Prim.Native.Nat.{ℕ, ◌+◌, ◌*◌, ◌/◌, ◌%◌, ◌^◌, ◌<◌, ◌≤◌}
 use mathlib.Core.Path.{◌≡◌, refl, sym, ap, ◌∙◌}
-use mathlib.Core.Bool.{Bool, true, false, not, cond, ◌&&◌, ◌||◌, and-true, or_assoc, or_self, or-false}
+use mathlib.Core.Bool.{Bool, true, false, not, cond, ◌&&◌, ◌||◌, and-true, and_comm, or_assoc, or_self, or-false}
 use mathlib.Core.List.{List}
 use native.Mathlib.Omega.{arith}
 use lib.Dec.{eqb, ltb}
@@ -9,23 +11,21 @@ use lib.ListN.{get_or}
 use Rattle.counting.proofs.Laws.Tests.{both, by_cases, given, eqb_apart}
 use Rattle.counting.specs.Counting.{every, sum, count, first}
 use Rattle.counting.proofs.Laws.Counting.{every_at, every_back, every_back_ends, count_le, count_ext, count_or}
-use Rattle.counting.proofs.Laws.First.{first_le, first_ext, found_counted, first_else, else_starts, else_turns, else_ends}
+use Rattle.counting.proofs.Laws.First.{first_ext, found_counted, first_else, else_starts, else_turns, else_ends}
 use Rattle.table.specs.declared.geometry.Geometry.{Geometry}
 use Rattle.table.specs.Words.{state_form, phase_of, owner, modified}
 use Rattle.table.specs.View.{View, view, live, current}
-use Rattle.entries.specs.declared.marks.Marks.{Marks}
-use Rattle.entries.specs.declared.survey.Findings.{Findings}
 use Rattle.entries.specs.Dirty.{owns_at, owner_of, dirty, dirty_item}
 use Rattle.entries.specs.Tally.{has}
-use Rattle.entries.specs.Sound.{marks_form, phases_of, points_of, marks_agree, states_form, node_sound, nodes_sound, sound}
-use Rattle.entries.specs.code.MarksLoop.{Marked, marks_test}
-use Rattle.entries.proofs.Laws.MarksLoop.{marked_sound}
+use Rattle.entries.specs.Sound.{states_form, node_sound, nodes_sound, items_sound, sound}
+use Rattle.entries.specs.code.MarksLoop.{marks_of, mark_met, marks_test}
+use Rattle.entries.proofs.Laws.MarksLoop.{marks_sound}
 use Rattle.entries.specs.code.Survey.{codes_form, holds, holds_at, keeps_at, top_at, live_top, low_form, weight_at, kind_test, created_tally, kind_by, owns_test}
 use Rattle.entries.proofs.Laws.SurveyFields.{tally_fields, none_of}
 use Rattle.entries.proofs.Laws.SurveyKinds.{same_has}
 use Rattle.entries.specs.code.SurveySound.{Surveyable, RowsSurveyed}
 use Rattle.entries.proofs.Laws.SurveySound.{form_parts, survey_told}
-use Rattle.entries.specs.code.SurveyDirty.{KindsFound, Found, TableFound}
+use Rattle.entries.specs.code.SurveyDirty.{kinds_found, found, table_found}
 
 -- ---- the tests of the tallies, from the last item down
 
@@ -57,18 +57,22 @@ module _ (notes : List ℕ) (items phase : ℕ) where
 
   pub kinds_turn :
       {m n at created : ℕ} {sound good : Bool} {d r : ℕ} → created ≡ created_tally phase → KindsFrom notes items phase m sound d → m ≡ n + 1 → at ≡ 3 * n
-      → good ≡ kind_by created (get_or notes at 0 % 2 ^ 45) → r ≡ cond (eqb (get_or notes at 0 / 2 ^ 15 % 1024) 0) d n
-      → KindsFrom notes items phase n (good && sound) r
-  kinds_turn {n = n} {sound = sound} {d = d} c k e p g h = record {
-    tests = k.tests ∙ every_back (kind_in notes phase) n sound e ((rw (p, c) at g) ∙ kind_by_lem phase (get_or notes (3 * n) 0 % 2 ^ 45));
-    lowest = k.lowest ∙ else_turns (owns_in notes) n d e ((rw p at h) ∙ other_way (eqb (get_or notes (3 * n) 0 / 2 ^ 15 % 1024) 0) d n);
+      → good ≡ kind_by created (get_or notes at 0 % 2 ^ 45) → r ≡ cond (owns_test (get_or notes at 0)) n d
+      → KindsFrom notes items phase n (sound && good) r
+  kinds_turn {n = n} {sound = sound} {good = good} {d = d} c k e p g h = record {
+    tests =
+        k.tests ∙ every_back (kind_in notes phase) n sound e ((rw (p, c) at g) ∙ kind_by_lem phase (get_or notes (3 * n) 0 % 2 ^ 45))
+        ∙ ap (λ q. every (kind_in notes phase) n && q) (and_comm good sound);
+    lowest = k.lowest ∙ else_turns (owns_in notes) n d e (rw p at h);
   }
 
-  pub kinds_end : {n : ℕ} {r : Findings} → n ≤ 0 → KindsFrom notes items phase n r.sound r.dirty → KindsFound notes items phase r
-  kinds_end {r = r} l k = record {
-    sound = sym (k.tests ∙ every_back_ends (kind_in notes phase) r.sound l);
-    dirty = sym (k.lowest ∙ else_ends (owns_in notes) l);
-  }
+  pub kinds_end :
+      {n d : ℕ} {sound : Bool} {r : Option ℕ} → n ≤ 0 → KindsFrom notes items phase n sound d → r ≡ then_some sound d
+      → r ≡ kinds_found notes items phase
+  unfolding kinds_found
+  kinds_end {d = d} {sound = sound} l k h =
+      rw (k.tests ∙ every_back_ends (kind_in notes phase) sound l, k.lowest ∙ else_ends (owns_in notes) l)
+      (h ∙ by_cases sound (λ e. rw e refl) (λ e. rw e refl))
 
 -- ---- one item: its tally tells whether a live node owns it
 
@@ -99,10 +103,6 @@ module _ (v : View) (b n : ℕ) (few : n < 32) (formed : (m : ℕ) → m < n →
 
 -- ---- what is found of a table
 
-pub dirty_within : {g : Geometry} {v : View} {r : Findings} → TableFound g v r → sound g v ≡ true → r.dirty ≤ g.items
-unfolding dirty_item
-dirty_within {g} {v} f e = omega (arith, f.dirty e, first_le (dirty g v) g.items)
-
 nodes_formed :
     (g : Geometry) (v : View) → nodes_sound g v ≡ true → (n b : ℕ) → n < g.nodes → b < g.items → live v n ≡ true → codes_form (top_at v b n) ≡ true
 unfolding nodes_sound node_sound states_form
@@ -111,24 +111,44 @@ nodes_formed g v h n b l k e =
     let form = every_at g.items (λ b. state_form (v.entry n b).state) (both (states_form g v n) node).0 b k in
     (both (low_form (v.entry n b).state) (sym (form_parts (v.entry n b).state) ∙ form)).1
 
-pub survey_found :
-    {g : Geometry} (t : List ℕ) {notes : List ℕ} {rows : Bool} {kinds : Findings} (phase : ℕ) → Surveyable g t
-    → RowsSurveyed g (view g t) g.nodes notes rows → KindsFound notes g.items phase kinds
-    → Found g (view g t) phase (record { sound = rows && kinds.sound; dirty = kinds.dirty })
-unfolding dirty_item dirty owner_of
-survey_found {g} t {notes} phase s p k = record {
-  sound = survey_told t phase s p k.sound;
-  dirty = λ h. k.dirty ∙ first_ext g.items _ (dirty g (view g t)) (λ b l.
-      ap (λ x. owns_test x) (p.noted.each b l).tally
-      ∙ tally_owns (view g t) b g.nodes (omega (arith, s.nodes)) (λ m q. nodes_formed g (view g t) h m b q l));
-}
+-- rows and kinds together, where the nodes are sound
+module _ {g : Geometry} (t : List ℕ) {notes : List ℕ} {rows : Bool} (phase : ℕ) (s : Surveyable g t) (p : RowsSurveyed g (view g t) g.nodes notes rows) where
+  pub survey_fails : rows ≡ false → None ≡ found g (view g t) phase
+  unfolding found
+  survey_fails e = let no : (nodes_sound g (view g t) && items_sound g (view g t) phase) ≡ false = rw e at (sym (survey_told t phase s p refl)) in rw no refl
 
-pub table_found :
-    (g : Geometry) (v : View) (m : Marks) {agree : Bool} {rest : Findings} → Marked v g.nodes m → agree ≡ marks_test m.first m.equal
-    → Found g v (phase_of m.first) rest → TableFound g v (record { sound = agree && rest.sound; dirty = rest.dirty })
-unfolding sound
-table_found g v m k a f = record {
-  is = marked_sound g v m k a f.sound;
-  dirty = λ h. f.dirty (both (nodes_sound g v)
-      (both (marks_agree (phases_of v g.nodes) (points_of v g.nodes)) (both (marks_form v g.nodes) h).1).1).0;
-}
+  pub survey_found : rows ≡ true → kinds_found notes g.items phase ≡ found g (view g t) phase
+  unfolding kinds_found found dirty_item dirty owner_of
+  survey_found e =
+      let v = view g t in
+      let told : every (kind_in notes phase) g.items ≡ (nodes_sound g v && items_sound g v phase) = rw e at (survey_told t phase s p refl) in
+      by_cases (nodes_sound g v)
+      (λ h. let same : first (owns_in notes) g.items ≡ first (dirty g v) g.items =
+      first_ext g.items _ (dirty g v) (λ b l.
+      ap (λ x. owns_test x) (p.noted.each b l).tally
+      ∙ tally_owns v b g.nodes (omega (arith, s.nodes)) (λ m q. nodes_formed g v h m b q l)) in
+      rw (same, told) refl)
+      (λ h. let no : (nodes_sound g v && items_sound g v phase) ≡ false = rw h refl in rw (told, no) refl)
+
+module _ (g : Geometry) (v : View) where
+  pub marks_apart : None ≡ mark_met v g.nodes → None ≡ table_found g v
+  unfolding mark_met table_found
+  marks_apart h = rw (marks_sound g v) (by_cases (marks_of v g.nodes).equal (λ e. absurd (never (rw e at h))) (λ e. rw e refl))
+    where
+      never : {m : ℕ} → None ≡ Some m → ⊥
+      never e = let z : ◌≡◌ {A = ℕ} 0 1 = cc in omega arith
+
+  module _ {mark : ℕ} (h : Some mark ≡ mark_met v g.nodes) where
+    met : ((marks_of v g.nodes).equal ≡ true) × (mark ≡ (marks_of v g.nodes).first)
+    unfolding mark_met
+    met = by_cases (marks_of v g.nodes).equal
+        (λ e. let h' : Some mark ≡ Some (marks_of v g.nodes).first = rw e at h in (e, cc))
+        (λ e. let h' : Some mark ≡ None = rw e at h in let z : ◌≡◌ {A = ℕ} 0 1 = cc in absurd (omega arith))
+
+    pub marks_bad : marks_test mark ≡ false → None ≡ table_found g v
+    unfolding table_found
+    marks_bad b = rw (marks_sound g v, met.0, ← met.1, b) refl
+
+    pub marks_good : marks_test mark ≡ true → found g v (phase_of mark) ≡ table_found g v
+    unfolding table_found found
+    marks_good b = rw (marks_sound g v, met.0, ← met.1, b) refl

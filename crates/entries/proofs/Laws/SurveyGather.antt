@@ -7,7 +7,8 @@ use native.Mathlib.Omega.{arith}
 use native.Mathlib.Decide.{ℕ_discrete}
 use mir.Val.{bool_byte}
 use lib.Dec.{eqb, ltb}
-use lib.ListN.{length, get_or, set, length-set}
+use lib.ListN.{length, get_or, set, take, length-set, length-take}
+use Rattle.std.proofs.lemmas.List.{get_or-take}
 use lib.Seq.{get_or-set_same, get_or-set_other}
 use borrow.Author.Tests.{eq-eqb, ne_eqb, ltb-true, ltb-false}
 use Rattle.counting.proofs.Laws.Tests.{by_cases}
@@ -58,8 +59,16 @@ module _ {s : ℕ → ℕ} {b r : ℕ} {list₀ list : List ℕ} (q : Gathering 
   pub gathering_on : Gathering s b list list r
   gathering_on = record { row = q.row; few = q.few; size = refl }
 
-  pub gathering_ends : {m : ℕ} → b ≤ m → m ≤ b → Gathered s m list r
-  gathering_ends {m} h k = let e : b ≡ m = omega arith in (rw e at q).row
+  -- the part of the list that is filled
+  pub gathering_ends : {m : ℕ} → b ≤ m → m ≤ b → m ≤ length list₀ → Gathered s m (take r list) (length (take r list))
+  gathering_ends {m} h k room =
+      let e : b ≡ m = omega arith in
+      let g : Gathered s m list r = (rw e at q).row in
+      let l : r ≤ length list = omega (arith, q.few, q.size) in
+      record {
+        counted = omega (arith, length-take r list, g.counted);
+        lists = λ i j d. get_or-take r list (count (occupies s) i) 0 (omega (arith, g.counted, count_occupied s i d, count_up m (occupies s) (i + 1) (omega arith))) ∙ g.lists i j d;
+      }
 
 pub gathered_one :
     (t : List ℕ) (start offset : ℕ) {list : List ℕ} {count w d : ℕ} → w ≡ get_or t (start + offset) 0 → Counted (not (eqb w 0)) d

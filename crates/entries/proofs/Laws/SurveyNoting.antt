@@ -13,9 +13,9 @@ use lib.Seq.{get_or-set_same, get_or-set_other}
 use Rattle.counting.proofs.Laws.Tests.{and_both}
 use Rattle.counting.proofs.Laws.Differences.{none_gathered, none_differ}
 use Rattle.counting.specs.Counting.{every, sum, count}
-use Rattle.counting.proofs.Laws.Counting.{every_none, every_next, sum_none, sum_next, count_none, count_le, below}
+use Rattle.counting.proofs.Laws.Counting.{every_none, every_next, sum_none, sum_next, count_none, below}
 use Rattle.table.specs.declared.geometry.Geometry.{Geometry}
-use Rattle.table.specs.Geometry.{entry_at, Placed}
+use Rattle.table.specs.Geometry.{words_of, entry_at, Placed}
 use Rattle.table.proofs.Laws.Geometry.{entry_within, product}
 use Rattle.table.specs.View.{View, view, live, entry_in}
 use Rattle.table.proofs.Laws.View.{entry_read}
@@ -200,11 +200,16 @@ module _ (v : View) (m n : ℕ) where
 
 -- ---- the row of a node as its code goes
 
--- before the loop: the row starts at a word, and what it holds is gathered
-pub record RowSet (g : Geometry) (t : List ℕ) (n : ℕ) (list notes : List ℕ) (start r : ℕ) : Type 0 where
-  pub ready : RowReady g t n list notes
+-- before the loop: the row starts at a word, and the offsets of what it holds are gathered
+pub record RowSet (g : Geometry) (t : List ℕ) (n : ℕ) (offsets notes : List ℕ) (start : ℕ) : Type 0 where
+  pub words : words_of g ≤ length t
+  pub node : n < g.nodes
+  pub nodes : g.nodes ≤ 16
+  pub items : g.items ≤ 256
+  pub lives : live (view g t) n ≡ true
+  pub noted : NotedAll (view g t) g.items n notes
   pub placed : Placed g n 0 start
-  pub gathered : Gathered (row_state t start) g.items list r
+  pub gathered : Gathered (row_state t start) g.items offsets (length offsets)
 
 -- the items below p are noted; k of their entries hold something
 pub record NotedTo (g : Geometry) (t : List ℕ) (n start p k : ℕ) (notes : List ℕ) (frames differ : ℕ) : Type 0 where
@@ -219,28 +224,24 @@ pub record Turning (g : Geometry) (t : List ℕ) (n start j k : ℕ) (notes : Li
   pub holds : row_state t start b ≡ 0 → ⊥
   pub noted : NotedTo g t n start b k notes frames differ
 
-module _ {g : Geometry} {t list₀ notes : List ℕ} {n start : ℕ} (r : RowReady g t n list₀ notes) (a : Placed g n 0 start) where
-  pub row_asks : (start + 3 * g.items ≤ length t) × ((g.items ≤ length list₀) × (g.items ≤ 256))
+module _ {g : Geometry} {t list notes : List ℕ} {n start : ℕ} (r : RowReady g t n list notes) (a : Placed g n 0 start) where
+  pub row_asks : (start + 3 * g.items ≤ length t) × ((g.items ≤ length list) × (g.items ≤ 256))
   row_asks =
       let q : (n + 1) * g.items ≤ g.nodes * g.items = product g.nodes g.items (omega (arith, r.node)) (omega arith) in
       (omega (arith, r.words, a.at), (r.room, r.items))
 
-  pub row_set : {list : List ℕ} {m : ℕ} → length list ≡ length list₀ → Gathered (row_state t start) g.items list m → RowSet g t n list notes start m
-  row_set e h = record {
-    ready = record { words = r.words; node = r.node; nodes = r.nodes; items = r.items; lives = r.lives; room = omega (arith, e, r.room); noted = r.noted };
-    placed = a;
-    gathered = h;
-  }
+  pub row_set : {offsets : List ℕ} → Gathered (row_state t start) g.items offsets (length offsets) → RowSet g t n offsets notes start
+  row_set h = record { words = r.words; node = r.node; nodes = r.nodes; items = r.items; lives = r.lives; noted = r.noted; placed = a; gathered = h }
 
-module _ {g : Geometry} {t list notes₀ : List ℕ} {n start m : ℕ} (r : RowSet g t n list notes₀ start m) where
+module _ {g : Geometry} {t offsets notes₀ : List ℕ} {n start : ℕ} (r : RowSet g t n offsets notes₀ start) where
   state_at : (b : ℕ) → b < g.items → row_state t start b ≡ ((view g t).entry n b).state
-  state_at = row_state_lem g t n r.ready.node r.placed
+  state_at = row_state_lem g t n r.node r.placed
 
   pub row_starts : NotedTo g t n start 0 0 notes₀ 0 0
-  row_starts = record { within = omega arith; counted = sym (count_none (occupies (row_state t start))); passed = passed_none (view g t) g.items n r.ready.noted }
+  row_starts = record { within = omega arith; counted = sym (count_none (occupies (row_state t start))); passed = passed_none (view g t) g.items n r.noted }
 
   module _ {p k frames differ : ℕ} {notes : List ℕ} (u : NotedTo g t n start p k notes frames differ) where
-    pub row_turns : {j : ℕ} → k < m → j ≡ get_or list k 0 → (b : ℕ) × Turning g t n start j k notes frames differ b
+    pub row_turns : {j : ℕ} → k < length offsets → j ≡ get_or offsets k 0 → (b : ℕ) × Turning g t n start j k notes frames differ b
     row_turns {j} l e =
         let x = next_occupied (row_state t start) g.items p u.within (omega (arith, u.counted, r.gathered.counted)) in
         let b = x.0 in
@@ -248,7 +249,7 @@ module _ {g : Geometry} {t list notes₀ : List ℕ} {n start m : ℕ} (r : RowS
         let o : count (occupies (row_state t start)) b ≡ k = y.counted ∙ u.counted in (
           b,
           record {
-            at = e ∙ ap (λ i. get_or list i 0) (sym o) ∙ r.gathered.lists b y.within y.holds;
+            at = e ∙ ap (λ i. get_or offsets i 0) (sym o) ∙ r.gathered.lists b y.within y.holds;
             there = y.within;
             holds = y.holds;
             noted = record {
@@ -260,27 +261,21 @@ module _ {g : Geometry} {t list notes₀ : List ℕ} {n start m : ℕ} (r : RowS
           },
         )
 
-    pub row_ends : m ≤ k → RowNoted g (view g t) n notes (record { frames = frames; differ = differ })
+    pub row_ends : length offsets ≤ k → RowNoted g (view g t) n notes (record { frames = frames; differ = differ })
     row_ends l =
         let blank = all_blank (row_state t start) p g.items (omega (arith, u.counted, r.gathered.counted)) in
         let z = passed_blanks (view g t) g.items n g.items p u.within (omega arith) (λ i h q. sym (state_at i q) ∙ blank i h q) u.passed in
         record { noted = record { long = z.long; each = z.done }; frames = z.sums; same = z.agrees }
 
-  pub row_few : {k : ℕ} → k < m → k < 256
-  row_few l = omega (arith, r.gathered.counted, count_le g.items (occupies (row_state t start)), r.ready.items)
-
-  pub row_listed : {k : ℕ} → k < m → k < length list
-  row_listed l = omega (arith, r.gathered.counted, count_le g.items (occupies (row_state t start)), r.ready.room)
-
   module _ {j k frames differ b : ℕ} {notes : List ℕ} (u : Turning g t n start j k notes frames differ b) where
     pub turn_fits : start + j < 2 ^ 64
-    turn_fits = omega (arith, r.placed.small, u.at, u.there, r.ready.items)
+    turn_fits = omega (arith, r.placed.small, u.at, u.there, r.items)
 
     place : start + j ≡ entry_at g n b
     place = omega (arith, r.placed.at, u.at)
 
     entry : (view g t).entry n b ≡ entry_in t (entry_at g n b)
-    entry = entry_read g t n b r.ready.node u.there
+    entry = entry_read g t n b r.node u.there
 
     read_state : get_or t (start + j) 0 ≡ ((view g t).entry n b).state
     read_state = ap (λ i. get_or t i 0) place ∙ sym (ap (λ e. e.state) entry)
@@ -296,16 +291,16 @@ module _ {g : Geometry} {t list notes₀ : List ℕ} {n start m : ℕ} (r : RowS
       small = omega (arith, fits (start + j), read_state)
 
       few : n < 31
-      few = omega (arith, r.ready.node, r.ready.nodes)
+      few = omega (arith, r.node, r.nodes)
 
       pub turn_asks :
           (start + j + 2 < length t) × ((j + 2 < length notes) × (get_or notes j 0 + weight_of (top_of (get_or t (start + j) 0)) < 2 ^ 64))
       turn_asks = (
-        omega (arith, place, entry_within g r.ready.node u.there, r.ready.words),
+        omega (arith, place, entry_within g r.node u.there, r.words),
         (
           omega (arith, u.at, u.there, u.noted.passed.long),
           subst (λ i. get_or notes i 0 + weight_of (top_of (get_or t (start + j) 0)) < 2 ^ 64) (sym u.at)
-              (passed_room (view g t) g.items n b u.there u.noted.passed r.ready.lives few small read_state read_value_lem read_kept),
+              (passed_room (view g t) g.items n b u.there u.noted.passed r.lives few small read_state read_value_lem read_kept),
         ),
       )
 
@@ -318,8 +313,8 @@ module _ {g : Geometry} {t list notes₀ : List ℕ} {n start m : ℕ} (r : RowS
           arith,
           u.noted.passed.few,
           u.there,
-          r.ready.items,
-          passed_frames (view g t) g.items n b u.there u.noted.passed r.ready.lives few small read_state read_value_lem read_kept noted_here,
+          r.items,
+          passed_frames (view g t) g.items n b u.there u.noted.passed r.lives few small read_state read_value_lem read_kept noted_here,
         )
 
         pub turn_noted : NotedTo g t n start (b + 1) (k + 1) notes' (frames + turn.frames) (bit_or differ turn.differ)
@@ -327,5 +322,5 @@ module _ {g : Geometry} {t list notes₀ : List ℕ} {n start m : ℕ} (r : RowS
           within = omega (arith, u.there);
           counted = count_occupied (row_state t start) b u.holds ∙ ap (λ i. i + 1) u.noted.counted;
           passed = rw (none_gathered differ turn.differ)
-              (passed_next (view g t) g.items n b u.there u.noted.passed r.ready.lives few small read_state read_value_lem read_kept noted_here);
+              (passed_next (view g t) g.items n b u.there u.noted.passed r.lives few small read_state read_value_lem read_kept noted_here);
         }

@@ -1,5 +1,6 @@
 -- "A dead node's words, mark apart, are never read": views that have the same marks, and the same entries of live nodes,
 -- are sound or not alike, and show the same frames, owners and dirty items.
+use Rattle.std.specs.Prelude.{Err, Ok, Result}
 use mathlib.Core.Path.{◌≡◌, refl, sym, ap, ap₂, ◌∙◌, fun_ext}
 use mathlib.Core.Bool.{Bool, true, false, cond, not, ◌&&◌, ◌||◌}
 use mathlib.Core.List.{List, [], ◌∷◌}
@@ -13,13 +14,12 @@ use Rattle.counting.specs.Counting.{count, first}
 use Rattle.counting.proofs.Laws.Counting.{every_ext, sum_ext, count_ext}
 use Rattle.counting.proofs.Laws.First.{first_ext, first_passes}
 use Rattle.counting.proofs.Laws.Values.{values_ext}
+use Rattle.table.specs.declared.answers.Refusal.{Refusal}
 use Rattle.table.specs.declared.geometry.Geometry.{Geometry}
 use Rattle.table.specs.declared.answers.Refusal.TheVariants.{NotSound}
 use Rattle.table.specs.Words.{state_form}
 use Rattle.table.specs.Stores.{Store, size_store, mark_store, entry_store}
 use Rattle.table.specs.View.{Entry, View, view, live, current, kept, changed, put₂, update, updates}
-use Rattle.entries.specs.declared.check.Checked.{Checked}
-use Rattle.entries.specs.declared.check.Checked.TheVariants.{Passed, Failed}
 use Rattle.entries.specs.Frames.{sets_of, set_of, set_frames, frames_at, used, frames_fit, frame_free}
 use Rattle.entries.specs.Tally.{counts_of, has, has_kept, copy, kept_copy, item_test}
 use Rattle.entries.specs.Dirty.{owns, owns_at, owner_of, dirty, dirty_item}
@@ -159,12 +159,12 @@ module _ (g : Geometry) (v : View) (e : ℕ → ℕ → Entry) (ss : List Store)
 -- tables of the same sizes, whose views differ in nothing but dead nodes' entries
 pub record Alike (t t' : List ℕ) : Type 0 where
   pub sizes : sizes_of t' ≡ sizes_of t
-  pub marks : (g : Geometry) → sizes_of t ≡ Passed g → (view g t').mark ≡ (view g t).mark
-  pub entries : (g : Geometry) → sizes_of t ≡ Passed g → Agrees g (view g t) (view g t').entry
+  pub marks : (g : Geometry) → sizes_of t ≡ Ok g → (view g t').mark ≡ (view g t).mark
+  pub entries : (g : Geometry) → sizes_of t ≡ Ok g → Agrees g (view g t) (view g t').entry
 
 -- the other's view
 pub alike_view :
-    (g : Geometry) {t t' : List ℕ} → Alike t t' → sizes_of t ≡ Passed g → view g t' ≡ over (view g t) (view g t').entry
+    (g : Geometry) {t t' : List ℕ} → Alike t t' → sizes_of t ≡ Ok g → view g t' ≡ over (view g t) (view g t').entry
 alike_view g {t' = t'} a h = λ i. record { mark = a.marks g h i; entry = (view g t').entry }
 
 -- they pass the table checks alike
@@ -172,8 +172,8 @@ pub alike_fault : {t t' : List ℕ} → Alike t t' → fault_of t' ≡ fault_of 
 unfolding fault_of sound_of
 alike_fault {t} {t'} a = ap (sound_of t') a.sizes ∙ go (sizes_of t) refl
   where
-    go : (c : Checked) → sizes_of t ≡ c → sound_of t' c ≡ sound_of t c
-    go (Failed x) h = refl
-    go (Passed g) h =
-        ap (λ q. cond q (Passed g) (Failed NotSound))
+    go : (c : Result Geometry Refusal) → sizes_of t ≡ c → sound_of t' c ≡ sound_of t c
+    go (Err x) h = refl
+    go (Ok g) h =
+        ap (λ q. cond q (Ok g) (Err NotSound))
         (ap (sound g) (alike_view g a h) ∙ same_sound g (view g t) (view g t').entry (a.entries g h))

@@ -1,5 +1,5 @@
 -- A node's row of entries.
-use Rattle.std.specs.Prelude.{ℕ, ◌+◌, ◌*◌, ◌/◌, ◌^◌, List, [], ◌∷◌, get_or, Bool, ◌&&◌, leb, ltb}
+use Rattle.std.specs.Prelude.{ℕ, ◌+◌, ◌*◌, ◌/◌, ◌^◌, List, get_or, Bool, ◌&&◌, leb, ltb}
 use Rattle.table.specs.Geometry.{entry_words}
 use Rattle.counting.specs.Counting.{sum}
 use Rattle.entries.specs.Frames.{frames_in, set_frames}
@@ -14,28 +14,6 @@ unfoldable pub row_state : List ℕ → ℕ → ℕ → ℕ
 row_state t start b = get_or t (start + entry_words * b) 0
 
 -- ---- the frames of a row
-
--- four characters for each current code, kept 0, 1, 2, 3: the frames as a digit from '0', which is 48
-abbrev pub frame_digits : List ℕ
-frame_digits =
-    48 ∷ 49 ∷ 49 ∷ 49 ∷
-    49 ∷ 50 ∷ 50 ∷ 50 ∷
-    49 ∷ 50 ∷ 50 ∷ 50 ∷
-    49 ∷ 50 ∷ 50 ∷ 50 ∷
-    49 ∷ 50 ∷ 50 ∷ 50 ∷
-    49 ∷ 50 ∷ 50 ∷ 50 ∷
-    49 ∷ 50 ∷ 50 ∷ 50 ∷
-    49 ∷ 50 ∷ 50 ∷ 50 ∷
-    49 ∷ 50 ∷ 50 ∷ 50 ∷
-    49 ∷ 50 ∷ 50 ∷ 50 ∷
-    49 ∷ 50 ∷ 50 ∷ 50 ∷
-    49 ∷ 50 ∷ 50 ∷ 50 ∷
-    49 ∷ 50 ∷ 50 ∷ 50 ∷
-    49 ∷ 50 ∷ 50 ∷ 50 ∷
-    49 ∷ 50 ∷ 50 ∷ 50 ∷
-    49 ∷ 50 ∷ 50 ∷ 50 ∷ []
-
--- ---- a row
 
 -- the frames of the first m entries of a row
 unfoldable pub row_frames : List ℕ → ℕ → ℕ → ℕ

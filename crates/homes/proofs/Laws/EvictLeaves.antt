@@ -24,6 +24,7 @@ use Rattle.table.specs.Answers.{carry}
 use Rattle.entries.specs.Frames.{frame_free}
 use Rattle.entries.proofs.Laws.SoundFacts.{SoundTable, phase_in, number_in}
 use Rattle.entries.proofs.Laws.CheckFacts.{Accepted, accepted_facts}
+use Rattle.homes.proofs.Laws.HomeCode.{drops_if}
 use Rattle.homes.specs.declared.places.Place.{Place}
 use Rattle.homes.specs.declared.places.Place.TheVariants.{Current, Kept}
 use Rattle.homes.specs.Places.{code_in}
@@ -139,7 +140,7 @@ module _ (g : Geometry) (v : View) (phase number n h b : ℕ) (good : SoundTable
       current from ≢ invalid → place_fits g v Current b h ≡ true
       → WentHome g Current n h b (home_drops g v Current h b) v (updates (moved_to g v Current n b h ++ source_stores Current n b from.state) v)
   unfolding home_drops moved_to home_stores home_stores_by arrival_of drop_stores arrival_changes place_fits
-  current_goes coded f = go (eqb (current (v.entry h b)) shared) refl f
+  current_goes coded f = rw drops_if (go (eqb (current (v.entry h b)) shared) refl f)
     where
       go : (t : Bool) → eqb (current (v.entry h b)) shared ≡ t → (t || (eqb (current (v.entry h b)) invalid && has_room g v h b)) ≡ true
           → WentHome g Current n h b (cond t g.items drop) v
@@ -178,6 +179,7 @@ module _ (g : Geometry) (v : View) (phase number n h b : ℕ) (good : SoundTable
         | yes e ↦ ap (λ c. (ready.entry h c).value) (sym e) ∙ ap (λ i. i.value) (is_ready.drops (omega arith)) ∙ ap (λ c. (v.entry h c).value) e
       ] in
       rw (
+        drops_if,
         updates_then (drops_of g v h drop (ltb drop g.items) ++ map (entry_store h b) (kept_to from.kept_value ∷ state_to cur (kept from) ∷ [])) (source_stores Kept n b from.state) v,
         updates_then (drops_of g v h drop (ltb drop g.items)) (map (entry_store h b) (kept_to from.kept_value ∷ state_to cur (kept from) ∷ [])) v,
       )

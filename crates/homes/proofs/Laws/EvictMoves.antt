@@ -24,6 +24,7 @@ use Rattle.table.proofs.Laws.Copies.{value_free}
 use Rattle.entries.specs.Frames.{set_of, set_frames, used, frame_free}
 use Rattle.entries.proofs.Laws.Frames.{set_there}
 use Rattle.entries.proofs.Laws.SoundFacts.{SoundTable}
+use Rattle.homes.proofs.Laws.HomeCode.{drops_if}
 use Rattle.homes.specs.declared.places.Place.{Place}
 use Rattle.homes.specs.declared.places.Place.TheVariants.{Current, Kept}
 use Rattle.homes.specs.Home.{shared_at, shared_item, has_room, place_fits, dropped_item, current_left, arrival_of, drop_stores, arrival_changes, home_stores_by, home_stores}
@@ -125,7 +126,7 @@ module _ (g : Geometry) (v : View) (phase number n h b : ℕ) (good : SoundTable
     current_moves : place_fits g v Current b h ≡ true
         → Via g (Moving g n h b v) (Moving g n h b v) v (moved_to g v Current n b h ++ source_stores Current n b (v.entry n b).state)
     unfolding moved_to home_stores home_stores_by arrival_of drop_stores arrival_changes place_fits drops_of
-    current_moves f = via_then (go (eqb (current (v.entry h b)) shared) refl f) (λ u _ r. leaving u r)
+    current_moves f = rw drops_if (via_then (go (eqb (current (v.entry h b)) shared) refl f) (λ u _ r. leaving u r))
       where
         go : (t : Bool) → eqb (current (v.entry h b)) shared ≡ t → (t || (eqb (current (v.entry h b)) invalid && has_room g v h b)) ≡ true
             → Via g (Moving g n h b v) (Arrived g v n h b source home other item p) v
@@ -206,7 +207,7 @@ module _ (g : Geometry) (v : View) (phase number n h b : ℕ) (good : SoundTable
       → Via g (Moving g n h b v) (Moving g n h b v) v (moved_to g v Kept n b h ++ source_stores Kept n b (v.entry n b).state)
   unfolding moved_to home_stores home_stores_by arrival_of drop_stores arrival_changes place_fits drops_of source_stores
   kept_goes coded f =
-      via_then
+      rw drops_if (via_then
       (via_then (via_loosen (room_via fit.1) (ready_moving g v n h b source home other item))
       (λ u _ r. arrive_via g v n h b source home other item (back_copy (v.entry n b)) no_copy (λ w x y. twice none x y) (λ w x y. moved none x y) u r.ready 1 r.free
       {cs = kept_to kept_at ∷ state_to (current_left (current (v.entry h b)) (dropped_item g v h b) b) (kept (v.entry n b)) ∷ []}
@@ -214,7 +215,7 @@ module _ (g : Geometry) (v : View) (phase number n h b : ℕ) (good : SoundTable
       (arriving u r))))
       (λ u _ r. leave_via g v n h b source home other item (back_copy (v.entry n b)) no_copy (λ w x y. twice none x y) (λ w x y. moved none x y) u r
       (kept_leaves (v.entry n b) (form_of n b source item) no_copy
-      (ap (λ i. back_by i 0 value_at kept_at) (checkpoint_none (current (v.entry n b)) (low_at n source)) ∙ none_kept value_at kept_at)))
+      (ap (λ i. back_by i 0 value_at kept_at) (checkpoint_none (current (v.entry n b)) (low_at n source)) ∙ none_kept value_at kept_at))))
     where
       fit : (eqb (kept (v.entry h b)) invalid ≡ true) × (has_room g v h b ≡ true)
       fit = both (eqb (kept (v.entry h b)) invalid) f

@@ -1,4 +1,5 @@
 -- A whole eviction leaves a table that is accepted.
+use Rattle.std.specs.Prelude.{Ok}
 use Prim.Native.Nat.{ℕ, ◌≤◌, ◌<◌}
 use mathlib.Core.Path.{◌≡◌, sym, ap, ◌∙◌}
 use mathlib.Core.Logic.{◌≢◌, ◌⊎◌, inl, inr}
@@ -17,7 +18,6 @@ use Rattle.table.proofs.Laws.Forms.{form_facts}
 use Rattle.table.specs.Stores.{Store, after}
 use Rattle.table.specs.View.{View, view, current, kept}
 use Rattle.table.specs.Answers.{carry}
-use Rattle.entries.specs.declared.check.Checked.TheVariants.{Passed}
 use Rattle.entries.specs.Check.{fault_of}
 use Rattle.entries.proofs.Laws.Kinds.{Kind}
 use Rattle.entries.proofs.Laws.Sharers.{drop_shared}
@@ -206,5 +206,5 @@ module _ (t : List ℕ) (n b : ℕ) (place : Place) {g : Geometry} {value : ℕ}
     }
 
     -- so the next call accepts it
-    pub evict_sound : fault_of (after g limit ss t) ≡ Passed g
+    pub evict_sound : fault_of (after g limit ss t) ≡ Ok g
     evict_sound = facts_accepted (after g limit ss t) g phase number evict_facts

@@ -1,4 +1,5 @@
 -- What an admitted Evict is told: its place is not Invalid, a copy that is not dropped has a home. And what soundness tells of an item's kept copies.
+use Rattle.std.specs.Prelude.{Err, Ok}
 use Prim.Native.Nat.{ℕ, ◌≤◌, ◌<◌}
 use mathlib.Core.Path.{◌≡◌, refl, ap, ◌∙◌}
 use mathlib.Core.Logic.{◌≢◌}
@@ -14,10 +15,8 @@ use Rattle.table.specs.Words.{invalid, shared, owner, modified}
 use Rattle.table.specs.View.{View, current, kept}
 use Rattle.entries.proofs.Laws.Kinds.{owner_code, Owned, modified_at, owner_at, Kind, clean, dirty, created, has_code, copy_at, no_keep}
 use Rattle.entries.proofs.Laws.SoundFacts.{SoundTable}
-use Rattle.homes.specs.declared.admission.Admission.{Admission}
-use Rattle.homes.specs.declared.admission.Admission.TheVariants.{Admitted, Turned}
 use Rattle.homes.specs.declared.places.Place.{Place}
-use Rattle.homes.specs.Admission.{admission_of}
+use Rattle.homes.specs.Admission.{Admission, admission_of}
 use Rattle.homes.specs.Places.{code_in}
 use Rattle.homes.specs.Home.{no_home}
 use Rattle.homes.specs.Evict.{dropped, place_admission, evict_admission}
@@ -27,19 +26,20 @@ pub record Leaving (g : Geometry) (v : View) (place : Place) (n b : ℕ) : Type 
   pub coded : code_in place (v.entry n b) ≢ invalid
   pub homed : dropped place (v.entry n b) ≡ false → no_home g v place n b ≡ false
 
-pub evict_leaving : (g : Geometry) (v : View) (place : Place) (n b : ℕ) → evict_admission g v place n b ≡ Admitted → Leaving g v place n b
+pub evict_leaving : (g : Geometry) (v : View) (place : Place) (n b : ℕ) → evict_admission g v place n b ≡ Ok tt → Leaving g v place n b
 unfolding place_admission
 evict_leaving g v place n b e = of (admission_of g v n b) e
   where
-    go : (p q r : Bool) → cond p (Turned PlaceInvalid) (cond q Admitted (cond r (Turned NoHome) Admitted)) ≡ Admitted → (p ≡ false) × (q ≡ false → r ≡ false)
+    go : (p q r : Bool) → ◌≡◌ {A = Admission} (cond p (Err PlaceInvalid) (cond q (Ok tt) (cond r (Err NoHome) (Ok tt)))) (Ok tt)
+        → (p ≡ false) × (q ≡ false → r ≡ false)
     go true q r e = let z : ◌≡◌ {A = ℕ} 0 1 = cc in absurd (omega arith)
     go false true r e = (refl, λ z. absurd (no_both refl z))
     go false false true e = let z : ◌≡◌ {A = ℕ} 0 1 = cc in absurd (omega arith)
     go false false false e = (refl, λ _. refl)
 
-    of : (a : Admission) → place_admission g v place n b a ≡ Admitted → Leaving g v place n b
-    of (Turned r) e = let z : ◌≡◌ {A = ℕ} 0 1 = cc in absurd (omega arith)
-    of Admitted e =
+    of : (a : Admission) → place_admission g v place n b a ≡ Ok tt → Leaving g v place n b
+    of (Err r) e = let z : ◌≡◌ {A = ℕ} 0 1 = cc in absurd (omega arith)
+    of (Ok _) e =
         let t = go (eqb (code_in place (v.entry n b)) invalid) (dropped place (v.entry n b)) (no_home g v place n b) e in
         record { coded = eqb-false (code_in place (v.entry n b)) invalid t.0; homed = t.1 }
 

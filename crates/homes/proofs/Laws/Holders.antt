@@ -1,11 +1,11 @@
 -- The laws of `specs/Holders.antt`: the ways of the code, and the owner as an instance.
-use Prim.Native.Nat.{ℕ}
+use Prim.Native.Nat.{ℕ, ◌<◌, ◌≤◌}
 use mathlib.Core.Path.{◌≡◌, refl, ap}
 use mathlib.Core.Bool.{Bool, false, ◌&&◌}
 use native.Mathlib.Omega.{arith}
 use native.Mathlib.Decide.{ℕ_discrete}
 use lib.Dec.{leb, eqb}
-use borrow.Author.Tests.{eq-eqb, ne_eqb, eqb-true, le-leb, leb-true}
+use borrow.Author.Tests.{eq-eqb, ne_eqb, eqb-true, le-leb, lt-leb, leb-true}
 use Rattle.counting.proofs.Laws.Tests.{both, and_both, bool_iff, either, or_left, or_right}
 use Rattle.counting.specs.Counting.{first}
 use Rattle.counting.proofs.Laws.First.{first_ext}
@@ -21,11 +21,14 @@ module _ (v : View) (b low high k : ℕ) {mark : ℕ} (h : mark ≡ v.mark k) wh
   unfolding holds_at
   holds_dead e = rw (← h, eq-eqb mark 0 e) refl
 
-  pub holds_live :
-      {state now : ℕ} → (mark ≡ 0 → ⊥) → state ≡ (v.entry k b).state → now ≡ current_of state
-      → (leb low now && leb now high) ≡ holds_at v b low high k
-  unfolding holds_at
-  holds_live e s c = rw (← h, ne_eqb mark 0 e, ← s, ← c) refl
+  module _ {state now : ℕ} (e : mark ≡ 0 → ⊥) (s : state ≡ (v.entry k b).state) (c : now ≡ current_of state) where
+    pub holds_above : low ≤ now → leb now high ≡ holds_at v b low high k
+    unfolding holds_at
+    holds_above l = rw (← h, ne_eqb mark 0 e, ← s, ← c, le-leb low now l) refl
+
+    pub holds_below : now < low → false ≡ holds_at v b low high k
+    unfolding holds_at
+    holds_below l = rw (← h, ne_eqb mark 0 e, ← s, ← c, lt-leb low now l) refl
 
 -- the search for a code of which a range of codes is a test
 pub holder_first :

@@ -1,40 +1,25 @@
 -- The ways of the code that looks for a home and stores there: a law for each, over what the code has read.
-use Prim.Native.Nat.{ℕ, ◌+◌, ◌≤◌, ◌<◌}
-use mathlib.Core.Path.{◌≡◌, refl, sym, ap, ◌∙◌}
+use Rattle.std.specs.Prelude.{Option, Some, None}
+use Prim.Native.Nat.{ℕ, ◌≤◌, ◌<◌}
+use mathlib.Core.Path.{◌≡◌, refl, ap}
 use mathlib.Core.Bool.{Bool, true, false, cond, ◌&&◌, ◌||◌}
 use mathlib.Core.List.{List, [], ◌∷◌, ◌++◌, map}
-use native.Mathlib.Omega.{arith}
 use lib.Dec.{eqb, ltb}
-use borrow.Author.Tests.{eq-eqb, ne_eqb}
+use borrow.Author.Tests.{eq-eqb, ne_eqb, lt-ltb, le-ltb}
 use Rattle.table.specs.declared.geometry.Geometry.{Geometry}
-use Rattle.table.specs.Words.{current_of, kept_of, invalid, shared}
-use Rattle.table.specs.Stores.{Stored, StoredIn, entry_store, state_to, value_to, kept_to}
+use Rattle.table.specs.Words.{current_of, kept_of, invalid}
+use Rattle.table.specs.Stores.{Stored, entry_store, state_to, value_to, kept_to}
+use Rattle.table.specs.code.Stores.{StoredIn}
 use Rattle.table.proofs.Laws.Stores.{stored_then, stored_two, stored_as}
 use Rattle.table.specs.View.{View}
-use Rattle.counting.specs.Counting.{first}
-use Rattle.counting.proofs.Laws.First.{first_turns, first_found}
 use Rattle.entries.specs.Frames.{frame_free}
 use Rattle.homes.specs.declared.places.Place.{Place}
 use Rattle.homes.specs.declared.places.Place.TheVariants.{Current, Kept}
+use Rattle.homes.specs.declared.home.Dropped.{Dropped}
 use Rattle.homes.specs.declared.home.Arrival.{Arrival}
 use Rattle.homes.specs.Places.{code_of, shared_in}
-use Rattle.homes.specs.Home.{shared_at, shared_item, has_room, place_fits, fits, dropped_item, current_left, arrival_of}
-use Rattle.homes.specs.Home.{drop_stores, arrival_changes, takeover_stores, home_stores_by}
-
--- ---- the lowest Shared copy
-
-module _ (v : View) (h b : ℕ) {w c : ℕ} (p : w ≡ (v.entry h b).state) (q : c ≡ current_of w) (none : first (shared_at v h) b ≡ b) where
-  pub shared_here : (g : Geometry) → c ≡ shared → b < g.items → b ≡ shared_item g v h
-  unfolding shared_item shared_at
-  shared_here g e l = sym (first_found (shared_at v h) b g.items none (eq-eqb _ shared (sym (q ∙ ap current_of p) ∙ e)) l)
-
-  pub shared_on : (c ≡ shared → ⊥) → first (shared_at v h) (b + 1) ≡ b + 1
-  unfolding shared_at
-  shared_on e = first_turns (shared_at v h) b none (ne_eqb _ shared (λ k. e (q ∙ ap current_of p ∙ k)))
-
-pub shared_none : (g : Geometry) (v : View) (h b : ℕ) → b ≤ g.items → g.items ≤ b → first (shared_at v h) b ≡ b → g.items ≡ shared_item g v h
-unfolding shared_item
-shared_none g v h b k l none = let e : b ≡ g.items = omega arith in sym (rw e at none)
+use Rattle.homes.specs.Home.{shared_item, has_room, place_fits, fits, dropped_item, drop_at, current_left, arrival_of}
+use Rattle.homes.specs.Home.{drop_by, drop_stores, arrival_changes, takeover_stores, home_stores_by}
 
 -- ---- room
 
@@ -96,24 +81,39 @@ module _ (c dropped b : ℕ) where
   unfolding current_left
   left_stays e = rw (ne_eqb dropped b e) refl
 
+module _ (g : Geometry) (v : View) (h d : ℕ) where
+  pub drop_some : d < g.items → {w : ℕ} → w ≡ (v.entry h d).state → Some (record { item = d; state = w }) ≡ drop_at g v h d
+  drop_some l p = rw (lt-ltb d g.items l, p) refl
+
+  pub drop_none : g.items ≤ d → None ≡ drop_at g v h d
+  drop_none l = rw (le-ltb d g.items l) refl
+
 pub arrival_read :
-    (g : Geometry) (v : View) (place : Place) (h b : ℕ) {w d x c c' k : ℕ} {over : Bool}
-    → w ≡ (v.entry h b).state → over ≡ shared_in place w → d ≡ dropped_item g v h b → x ≡ (v.entry h d).state
+    (g : Geometry) (v : View) (place : Place) (h b : ℕ) {w d c c' k : ℕ} {x : Option Dropped} {over : Bool}
+    → w ≡ (v.entry h b).state → over ≡ shared_in place w → d ≡ dropped_item g v h b → x ≡ drop_at g v h d
     → c ≡ current_of w → c' ≡ current_left c d b → k ≡ kept_of w
-    → record { takeover = over; drops = ltb d g.items; dropped = d; beside = x; current = c'; kept = k } ≡ arrival_of g v place h b
+    → record { takeover = over; drop = x; current = c'; kept = k } ≡ arrival_of g v place h b
 unfolding arrival_of
 arrival_read g v place h b p q r x c l k = rw (q, x, l, c, k, p, r) refl
 
 -- ---- the home's stores
 
+-- a copy is dropped if there is one
+pub drops_if :
+    (h : ℕ) (t : Bool) (d : Dropped)
+    → drop_by h (cond t (Some d) None) ≡ cond t (entry_store h d.item (state_to invalid (kept_of d.state)) ∷ []) []
+drops_if h true d = refl
+drops_if h false d = refl
+
 module _ (h : ℕ) (a : Arrival) where
-  pub drop_made : a.drops ≡ true → {k : ℕ} → k ≡ kept_of a.beside → drop_stores h a ≡ entry_store h a.dropped (state_to invalid k) ∷ []
+  pub drop_made :
+      {d : Dropped} → a.drop ≡ Some d → {k : ℕ} → k ≡ kept_of d.state → drop_stores h a ≡ entry_store h d.item (state_to invalid k) ∷ []
   unfolding drop_stores
   drop_made e q = rw (e, q) refl
 
-  pub drop_none : a.drops ≡ false → drop_stores h a ≡ []
+  pub drop_nothing : a.drop ≡ None → drop_stores h a ≡ []
   unfolding drop_stores
-  drop_none e = rw e refl
+  drop_nothing e = rw e refl
 
 module _ {place : Place} (h b code value : ℕ) (a : Arrival) {g : Geometry} {left left₁ left₂ : ℕ} {t t₁ t₂ : List ℕ} where
   pub arrives_current :

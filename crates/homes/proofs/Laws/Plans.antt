@@ -1,4 +1,5 @@
 -- Laws of `specs/Admission.antt`: the common shape of a call's plan.
+use Rattle.std.specs.Prelude.{Err, Ok, Result}
 use Prim.Native.Nat.{ℕ}
 use mathlib.Core.Path.{◌≡◌, refl, sym, ap, ◌∙◌}
 use mathlib.Core.List.{List}
@@ -10,26 +11,22 @@ use Rattle.table.specs.declared.answers.Answer.TheVariants.{NothingLeft}
 use Rattle.table.specs.Stores.{Store}
 use Rattle.table.specs.View.{View, view}
 use Rattle.table.specs.Answers.{Plan, refuse, nothing_left, carry, Meets}
-use Rattle.entries.specs.declared.check.Checked.{Checked}
-use Rattle.entries.specs.declared.check.Checked.TheVariants.{Passed, Failed}
 use Rattle.entries.specs.Check.{fault_of}
-use Rattle.homes.specs.declared.admission.Admission.{Admission}
-use Rattle.homes.specs.declared.admission.Admission.TheVariants.{Admitted, Turned}
-use Rattle.homes.specs.Admission.{plan_admitted, plan_checked, plan_by}
+use Rattle.homes.specs.Admission.{Admission, plan_admitted, plan_checked, plan_by}
 
 -- ---- the ways of the code: failed, turned down, admitted
 
 module _ (admits : Geometry → View → Admission) (acts : Geometry → View → Plan) (t : List ℕ) where
-  pub plan_failed : {c : Checked} {r : Refusal} → c ≡ fault_of t → c ≡ Failed r → plan_by admits acts t ≡ refuse r
+  pub plan_failed : {c : Result Geometry Refusal} {r : Refusal} → c ≡ fault_of t → c ≡ Err r → plan_by admits acts t ≡ refuse r
   unfolding plan_by plan_checked
   plan_failed e h = ap (plan_checked admits acts t) (sym e ∙ h)
 
-  module _ {c : Checked} {g : Geometry} (e : c ≡ fault_of t) (h : c ≡ Passed g) {a : Admission} (k : a ≡ admits g (view g t)) where
-    pub plan_turned : {r : Refusal} → a ≡ Turned r → plan_by admits acts t ≡ refuse r
+  module _ {c : Result Geometry Refusal} {g : Geometry} (e : c ≡ fault_of t) (h : c ≡ Ok g) {a : Admission} (k : a ≡ admits g (view g t)) where
+    pub plan_turned : {r : Refusal} → a ≡ Err r → plan_by admits acts t ≡ refuse r
     unfolding plan_by plan_checked plan_admitted
     plan_turned q = ap (plan_checked admits acts t) (sym e ∙ h) ∙ ap (λ x. plan_admitted x (acts g (view g t))) (sym k ∙ q)
 
-    pub plan_admitted_lem : a ≡ Admitted → plan_by admits acts t ≡ acts g (view g t)
+    pub plan_admitted_lem : a ≡ Ok tt → plan_by admits acts t ≡ acts g (view g t)
     unfolding plan_by plan_checked plan_admitted
     plan_admitted_lem q = ap (plan_checked admits acts t) (sym e ∙ h) ∙ ap (λ x. plan_admitted x (acts g (view g t))) (sym k ∙ q)
 
@@ -37,8 +34,8 @@ module _ (admits : Geometry → View → Admission) (acts : Geometry → View �
 
 pub record Acted (admits : Geometry → View → Admission) (acts : Geometry → View → Plan) (t : List ℕ) (p : Plan) : Type 0 where
   pub geometry : Geometry
-  pub passed : fault_of t ≡ Passed geometry
-  pub admitted : admits geometry (view geometry t) ≡ Admitted
+  pub passed : fault_of t ≡ Ok geometry
+  pub admitted : admits geometry (view geometry t) ≡ Ok tt
   pub plan : acts geometry (view geometry t) ≡ p
 
 pub plan_acted :
@@ -48,19 +45,19 @@ unfolding plan_by plan_checked plan_admitted
 plan_acted admits acts t {g} {x} {ss} e = checked (fault_of t) refl e
   where
     admitted :
-        (h : Geometry) → fault_of t ≡ Passed h → (a : Admission) → a ≡ admits h (view h t) → plan_admitted a (acts h (view h t)) ≡ carry g x ss
+        (h : Geometry) → fault_of t ≡ Ok h → (a : Admission) → a ≡ admits h (view h t) → plan_admitted a (acts h (view h t)) ≡ carry g x ss
         → Acted admits acts t (carry g x ss)
-    admitted h p (Turned r) k e = let z : ◌≡◌ {A = ℕ} 0 1 = cc in absurd (omega arith)
-    admitted h p Admitted k e = record { geometry = h; passed = p; admitted = sym k; plan = e }
+    admitted h p (Err r) k e = let z : ◌≡◌ {A = ℕ} 0 1 = cc in absurd (omega arith)
+    admitted h p (Ok _) k e = record { geometry = h; passed = p; admitted = sym k; plan = e }
 
-    checked : (c : Checked) → c ≡ fault_of t → plan_checked admits acts t c ≡ carry g x ss → Acted admits acts t (carry g x ss)
-    checked (Failed r) p e = let z : ◌≡◌ {A = ℕ} 0 1 = cc in absurd (omega arith)
-    checked (Passed h) p e = admitted h (sym p) (admits h (view h t)) refl e
+    checked : (c : Result Geometry Refusal) → c ≡ fault_of t → plan_checked admits acts t c ≡ carry g x ss → Acted admits acts t (carry g x ss)
+    checked (Err r) p e = let z : ◌≡◌ {A = ℕ} 0 1 = cc in absurd (omega arith)
+    checked (Ok h) p e = admitted h (sym p) (admits h (view h t)) refl e
 
 -- a call that only ever stores by its own geometry's list
 pub record Carried (admits : Geometry → View → Admission) (stores : Geometry → View → List Store) (t : List ℕ) (g : Geometry) (ss : List Store) : Type 0 where
-  pub passed : fault_of t ≡ Passed g
-  pub admitted : admits g (view g t) ≡ Admitted
+  pub passed : fault_of t ≡ Ok g
+  pub admitted : admits g (view g t) ≡ Ok tt
   pub stores_are : ss ≡ stores g (view g t)
 
 pub acted_carried :

@@ -1,5 +1,6 @@
 -- The relation of a table to a plain memory: a sound table whose current copies have the values written, whose recovery copies have the values saved, and
 -- whose marks carry the number of the point saved. It says nothing of states and places beyond that.
+use Rattle.std.specs.Prelude.{Ok}
 use Prim.Native.Nat.{ℕ, ◌<◌}
 use mathlib.Core.Path.{◌≡◌, sym, ap, ◌∙◌}
 use mathlib.Core.Logic.{◌≢◌}
@@ -12,7 +13,6 @@ use Rattle.table.specs.declared.geometry.Geometry.{Geometry}
 use Rattle.table.specs.Words.{number_of}
 use Rattle.table.specs.View.{View, view, live, current}
 use Rattle.table.specs.Copies.{back_copy, copy_number, copy_value}
-use Rattle.entries.specs.declared.check.Checked.TheVariants.{Passed}
 use Rattle.entries.specs.Check.{fault_of}
 use Rattle.entries.proofs.Laws.SoundFacts.{number_in}
 use Rattle.entries.proofs.Laws.CheckFacts.{Accepted, accepted_facts, facts_accepted, sound_pair}
@@ -29,7 +29,7 @@ module _ (g : Geometry) (v : View) where
       (n b : ℕ) → Live g v n → b < g.items → copy_number (back_copy (v.entry n b)) ≢ 0 → copy_value (back_copy (v.entry n b)) ≡ saved b
 
 pub record Serves (t : List ℕ) (g : Geometry) (values saved : ℕ → ℕ) (number : ℕ) : Type 0 where
-  pub passed : fault_of t ≡ Passed g
+  pub passed : fault_of t ≡ Ok g
   pub number_is : (n : ℕ) → Live g (view g t) n → number_of ((view g t).mark n) ≡ number
   pub current : CurrentHave g (view g t) values
   pub back : BackHave g (view g t) saved
@@ -37,8 +37,8 @@ pub record Serves (t : List ℕ) (g : Geometry) (values saved : ℕ → ℕ) (nu
 -- ---- small laws
 
 -- a table has one geometry
-pub same_geometry : (t : List ℕ) {g g' : Geometry} → fault_of t ≡ Passed g → fault_of t ≡ Passed g' → g' ≡ g
-same_geometry t {g} {g'} p q = let e : Passed g' ≡ Passed g = sym q ∙ p in cc
+pub same_geometry : (t : List ℕ) {g g' : Geometry} → fault_of t ≡ Ok g → fault_of t ≡ Ok g' → g' ≡ g
+same_geometry t {g} {g'} p q = let e : Ok g' ≡ Ok g = sym q ∙ p in cc
 
 -- the number as the checks find it
 pub serves_number : (t : List ℕ) (g : Geometry) (values saved : ℕ → ℕ) (number : ℕ) → Serves t g values saved number → number_in g (view g t) ≡ number

@@ -1,5 +1,6 @@
 -- "A dead node's words, mark apart, are never read", by Evict: its home, its refusals and its stores do not rest on
 -- them; and the plan of a call does not if what it admits and what it does do not.
+use Rattle.std.specs.Prelude.{Err, Ok, Result}
 use Prim.Native.Nat.{ℕ}
 use mathlib.Core.Path.{◌≡◌, refl, ap, ap₂, ◌∙◌}
 use mathlib.Core.Bool.{Bool, true, cond, not, ◌&&◌, ◌||◌}
@@ -10,20 +11,17 @@ use Rattle.counting.proofs.Laws.Tests.{and_same, by_cases}
 use Rattle.counting.proofs.Laws.First.{first_ext}
 use Rattle.counting.proofs.Laws.Cyclic.{first_after_ext}
 use Rattle.table.specs.declared.geometry.Geometry.{Geometry}
+use Rattle.table.specs.declared.answers.Refusal.{Refusal}
 use Rattle.table.specs.declared.answers.Refusal.TheVariants.{NoFrame}
 use Rattle.table.specs.Words.{shared}
 use Rattle.table.specs.View.{Entry, View, view, live, current}
 use Rattle.table.specs.Answers.{Plan, carry}
-use Rattle.entries.specs.declared.check.Checked.{Checked}
-use Rattle.entries.specs.declared.check.Checked.TheVariants.{Passed, Failed}
 use Rattle.entries.specs.Check.{fault_of}
 use Rattle.entries.proofs.Laws.CheckFacts.{facts_sizes, accepted_facts}
 use Rattle.entries.proofs.Laws.Unread.{over, Agrees, Alike, alike_view, alike_fault, same_free}
-use Rattle.homes.specs.declared.admission.Admission.{Admission}
-use Rattle.homes.specs.declared.admission.Admission.TheVariants.{Admitted, Turned}
 use Rattle.homes.specs.declared.places.Place.{Place}
 use Rattle.homes.specs.declared.places.Place.TheVariants.{Current, Kept}
-use Rattle.homes.specs.Admission.{admission_of, frame_full, frame_admission, plan_admitted, plan_checked, plan_by}
+use Rattle.homes.specs.Admission.{Admission, admission_of, frame_full, frame_admission, plan_admitted, plan_checked, plan_by}
 use Rattle.homes.proofs.Laws.Admission.{Admits, admission_tells}
 use Rattle.homes.specs.Home.{shared_at, shared_item, has_room, place_fits, fits, home_of, no_home, dropped_item}
 use Rattle.homes.specs.Home.{arrival_of, home_stores_by, home_stores}
@@ -37,7 +35,7 @@ use Rattle.homes.specs.Evict.{moved_to, evict_stores, place_admission, evict_adm
 pub admits_live : (g : Geometry) (v : View) (n b : ℕ) → Admits g v n b → live v n ≡ true
 admits_live g v n b a = ap not (ne_eqb (v.mark n) 0 a.live)
 
-admitted_live : (g : Geometry) (v : View) (n b : ℕ) → admission_of g v n b ≡ Admitted → live v n ≡ true
+admitted_live : (g : Geometry) (v : View) (n b : ℕ) → admission_of g v n b ≡ Ok tt → live v n ≡ true
 admitted_live g v n b h = admits_live g v n b (admission_tells g v n b h)
 
 module _ (g : Geometry) (v : View) (e : ℕ → ℕ → Entry) (s : Agrees g v e) where
@@ -56,10 +54,10 @@ module _ (g : Geometry) (v : View) (e : ℕ → ℕ → Entry) (s : Agrees g v e
     where
       go : (a : Admission) → admission_of g v n b ≡ a
           → frame_admission g (over v e) n b (f (e n b)) a ≡ frame_admission g v n b (f (v.entry n b)) a
-      go (Turned x) h = refl
-      go Admitted h =
+      go (Err x) h = refl
+      go (Ok _) h =
           let t = admitted_live g v n b h in
-          ap₂ (λ (x : Entry) (free : Bool). cond (f x && not free) (Turned NoFrame) Admitted) (s.alive n b t)
+          ap₂ (λ (x : Entry) (free : Bool). cond (f x && not free) (Err NoFrame) (Ok tt)) (s.alive n b t)
           (same_free g v e s n b t)
 
   -- ---- the home
@@ -118,8 +116,8 @@ module _ (g : Geometry) (v : View) (e : ℕ → ℕ → Entry) (s : Agrees g v e
     where
       go : (a : Admission) → admission_of g v n b ≡ a
           → place_admission g (over v e) place n b a ≡ place_admission g v place n b a
-      go (Turned x) h = refl
-      go Admitted h = rw (s.alive n b (admitted_live g v n b h), same_home g v e s place n b) refl
+      go (Err x) h = refl
+      go (Ok _) h = rw (s.alive n b (admitted_live g v n b h), same_home g v e s place n b) refl
 
   evict_stores_lem : Admits g v n b → evict_stores g (over v e) place n b ≡ evict_stores g v place n b
   unfolding evict_stores moved_to
@@ -136,19 +134,19 @@ module _ (g : Geometry) (v : View) (e : ℕ → ℕ → Entry) (s : Agrees g v e
 module _ (admits : Geometry → View → Admission) (acts : Geometry → View → Plan) where
   pub plan_alike :
       ((g : Geometry) (v : View) (e : ℕ → ℕ → Entry) → Agrees g v e → admits g (over v e) ≡ admits g v)
-      → ((g : Geometry) (v : View) (e : ℕ → ℕ → Entry) → Agrees g v e → admits g v ≡ Admitted
+      → ((g : Geometry) (v : View) (e : ℕ → ℕ → Entry) → Agrees g v e → admits g v ≡ Ok tt
       → acts g (over v e) ≡ acts g v)
       → {t t' : List ℕ} → Alike t t' → plan_by admits acts t' ≡ plan_by admits acts t
   unfolding plan_by plan_checked plan_admitted
   plan_alike p q {t} {t'} a = ap (plan_checked admits acts t') (alike_fault a) ∙ checked (fault_of t) refl
     where
-      admitted : (c : Admission) (x y : Plan) → (c ≡ Admitted → x ≡ y) → plan_admitted c x ≡ plan_admitted c y
-      admitted (Turned r) x y h = refl
-      admitted Admitted x y h = h refl
+      admitted : (c : Admission) (x y : Plan) → (c ≡ Ok tt → x ≡ y) → plan_admitted c x ≡ plan_admitted c y
+      admitted (Err r) x y h = refl
+      admitted (Ok _) x y h = h refl
 
-      checked : (c : Checked) → fault_of t ≡ c → plan_checked admits acts t' c ≡ plan_checked admits acts t c
-      checked (Failed r) h = refl
-      checked (Passed g) h =
+      checked : (c : Result Geometry Refusal) → fault_of t ≡ c → plan_checked admits acts t' c ≡ plan_checked admits acts t c
+      checked (Err r) h = refl
+      checked (Ok g) h =
           let w = (view g t').entry in
           let z = facts_sizes t g (accepted_facts t g h).shape in
           let k = a.entries g z in

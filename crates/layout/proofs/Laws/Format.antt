@@ -1,24 +1,25 @@
 -- The laws of `specs/Format.antt`.
+use Rattle.std.specs.Prelude.{None, Option, Some, Err, Ok, Result}
 use Prim.Native.Nat.{ℕ, ◌*◌, ◌≤◌}
 use mathlib.Core.Path.{◌≡◌, refl, sym, ap, ◌∙◌}
 use mathlib.Core.Bool.{true, false}
 use mathlib.Core.List.{List, [], ◌∷◌, map}
 use native.Mathlib.Omega.{arith}
-use lib.Dec.{leb, ltb}
+use lib.Dec.{leb}
 use lib.ListN.{length}
-use borrow.Author.Tests.{le-leb, lt-leb, leb-true, ltb-true, ltb-false}
+use borrow.Author.Tests.{le-leb, leb-true, ltb-false}
 use Rattle.counting.proofs.Laws.Tests.{by_cases}
 use Rattle.table.specs.declared.geometry.Geometry.{Geometry}
-use Rattle.table.specs.declared.geometry.Made.{Made}
-use Rattle.table.specs.declared.geometry.Made.TheVariants.{Allowed, NotAllowed}
-use Rattle.table.specs.declared.answers.Refusal.TheVariants.{EmptyOrShort, NoGeometry, TooManyFrames}
+use Rattle.table.specs.declared.answers.Refusal.{Refusal}
+use Rattle.table.specs.declared.answers.Refusal.TheVariants.{EmptyOrShort, TooManyFrames}
 use Rattle.table.specs.Geometry.{allowed, geometry_of, words_of}
-use Rattle.table.proofs.Laws.Geometry.{made_allowed}
+use Rattle.table.proofs.Laws.Geometry.{made_sized, made_allowed}
 use Rattle.table.specs.Stores.{Store, size_store, entry_store, runs, Stored}
 use Rattle.table.proofs.Laws.Stores.{nested_flat, stored_then}
-use Rattle.table.specs.Answers.{refuse, carry}
+use Rattle.table.specs.Answers.{Plan, refuse, carry}
 use Rattle.table.proofs.Laws.Answers.{refused_not}
 use Rattle.layout.specs.Format.{first_entry, first_mark, first_entries, format_stores, unusable_frames, format_made, format_of}
+use Rattle.layout.specs.code.Format.{fitting, geometry_for}
 
 -- ---- the ways of the code
 
@@ -37,25 +38,51 @@ pub format_then :
 unfolding format_stores
 format_then a b c = stored_then a (stored_then b c)
 
--- the plan
-module _ (t : List ℕ) (nodes items frames : ℕ) {made : Made} (e : made ≡ geometry_of nodes items frames) where
-  pub format_refused : made ≡ NotAllowed → format_of t nodes items frames ≡ refuse NoGeometry
-  unfolding format_made
-  format_refused h = rw (← e, h)
+-- the geometry that the numbers give a table that is long enough
+pub geometry_fits :
+    (t : List ℕ) (nodes items frames : ℕ) {g : Geometry} → geometry_of nodes items frames ≡ Some g → unusable_frames g ≡ false
+    → words_of g ≤ length t → Ok g ≡ geometry_for t nodes items frames
+unfolding geometry_for
+geometry_fits t nodes items frames {g} h u l = rw (h, u, le-leb (words_of g) (length t) l) refl
 
-  module _ {g : Geometry} (h : made ≡ Allowed g) where
-    pub format_unusable : unusable_frames g ≡ true → format_of t nodes items frames ≡ refuse TooManyFrames
-    unfolding format_made
-    format_unusable u = rw (← e, h, u)
+-- the plan, by that geometry
+abbrev fitted_plan : Result Geometry Refusal → Plan
+fitted_plan (Err x) = refuse x
+fitted_plan (Ok g) = carry g 0 (format_stores g)
 
-    module _ (u : unusable_frames g ≡ false) {words : ℕ} (w : words ≡ words_of g) where
-      pub format_short : ltb (length t) words ≡ true → format_of t nodes items frames ≡ refuse EmptyOrShort
-      unfolding format_made
-      format_short l = rw (← e, h, u, lt-leb (words_of g) (length t) (omega (arith, w, ltb-true (length t) words l)))
+made_plan : (t : List ℕ) (made : Option Geometry) → format_made t made ≡ fitted_plan (fitting t made)
+unfolding format_made
+made_plan t None = refl
+made_plan t (Some g) = by_cases (unusable_frames g) (λ u. rw u refl) (λ u. by_cases (leb (words_of g) (length t)) (λ l. rw (u, l) refl) (λ l. rw (u, l) refl))
 
-      pub format_carried : ltb (length t) words ≡ false → format_of t nodes items frames ≡ carry g 0 (format_stores g)
-      unfolding format_made
-      format_carried l = rw (← e, h, u, le-leb (words_of g) (length t) (omega (arith, w, ltb-false (length t) words l)))
+fitted_made : (t : List ℕ) (made : Option Geometry) {g : Geometry} → fitting t made ≡ Ok g → made ≡ Some g
+fitted_made t None e = let z : ◌≡◌ {A = ℕ} 0 1 = cc in absurd (omega arith)
+fitted_made t (Some h) {g} e = by_cases (unusable_frames h)
+    (λ u. let k : ◌≡◌ {A = Result Geometry Refusal} (Err TooManyFrames) (Ok g) = rw u at e in
+    let z : ◌≡◌ {A = ℕ} 0 1 = cc in
+    absurd (omega arith))
+    (λ u. by_cases (leb (words_of h) (length t))
+    (λ l. let k : ◌≡◌ {A = Result Geometry Refusal} (Ok h) (Ok g) = rw (u, l) at e in
+    let same : h ≡ g = cc in
+    ap (λ h. Some h) same)
+    (λ l. let k : ◌≡◌ {A = Result Geometry Refusal} (Err EmptyOrShort) (Ok g) = rw (u, l) at e in
+    let z : ◌≡◌ {A = ℕ} 0 1 = cc in
+    absurd (omega arith)))
+
+module _ (t : List ℕ) (nodes items frames : ℕ) where
+  pub format_refused : {x : Refusal} → Err x ≡ geometry_for t nodes items frames → format_of t nodes items frames ≡ refuse x
+  unfolding geometry_for
+  format_refused e = made_plan t (geometry_of nodes items frames) ∙ ap fitted_plan (sym e)
+
+  pub format_carried : {g : Geometry} → Ok g ≡ geometry_for t nodes items frames → format_of t nodes items frames ≡ carry g 0 (format_stores g)
+  unfolding geometry_for
+  format_carried e = made_plan t (geometry_of nodes items frames) ∙ ap fitted_plan (sym e)
+
+  pub format_nodes : {g : Geometry} → Ok g ≡ geometry_for t nodes items frames → 2 ≤ g.nodes
+  unfolding geometry_for
+  format_nodes e =
+      let s = made_sized nodes items frames (fitted_made t (geometry_of nodes items frames) (sym e)) in
+      omega (arith, s.nodes_low)
 
 -- ---- an accepted Format: an allowed geometry with the items asked for and frames that can be used, a table long enough
 -- for it, and these stores
@@ -73,9 +100,9 @@ pub format_accepted :
 unfolding format_made
 format_accepted t n m f {g} {x} {ss} e = from_made (geometry_of n m f) refl e
   where
-    from_made : (a : Made) → a ≡ geometry_of n m f → format_made t a ≡ carry g x ss → FormatAccepted t m g ss
-    from_made NotAllowed p e = absurd (refused_not e)
-    from_made (Allowed h) p e = by_cases (unusable_frames h)
+    from_made : (a : Option Geometry) → a ≡ geometry_of n m f → format_made t a ≡ carry g x ss → FormatAccepted t m g ss
+    from_made None p e = absurd (refused_not e)
+    from_made (Some h) p e = by_cases (unusable_frames h)
         (λ u. absurd (refused_not (rw u at e)))
         (λ u. by_cases (leb (words_of h) (length t))
         (λ l. let e' : carry h 0 (format_stores h) ≡ carry g x ss = rw (u, l) at e in

@@ -1,4 +1,5 @@
 -- THE THEOREM of formatted tables: Format's list leaves one, for every allowed geometry. And what such a table shows.
+use Rattle.std.specs.Prelude.{Ok}
 use Prim.Native.Nat.{ℕ, ◌+◌, ◌*◌, ◌/◌, ◌%◌, ◌<◌, ◌≤◌}
 use mathlib.Core.Path.{◌≡◌, refl, sym, ap, ◌∙◌, subst}
 use mathlib.Core.Bool.{true}
@@ -16,13 +17,12 @@ use Rattle.table.proofs.Laws.Stores.{All, none, more, all_then, all_runs, after_
 use Rattle.table.specs.View.{view, entry_in}
 use Rattle.table.proofs.Laws.View.{mark_read, entry_read}
 use Rattle.table.proofs.Laws.Pass.{grid_within}
-use Rattle.entries.specs.declared.check.Checked.TheVariants.{Passed}
 use Rattle.entries.specs.Check.{fault_of}
 use Rattle.entries.proofs.Laws.Frames.{used_most}
 use Rattle.entries.proofs.Laws.CheckFacts.{facts_accepted}
 use Rattle.layout.specs.Format.{first_mark, first_entries, format_stores}
 use Rattle.layout.specs.Formatted.{fresh_on, Formatted, FormattedWith, GoOnWorking}
-use Rattle.layout.proofs.Laws.Format.{format_carried, format_accepted}
+use Rattle.layout.proofs.Laws.Format.{geometry_fits, format_carried, format_accepted}
 use Rattle.layout.proofs.Laws.FormattedView.{formatted_entry, FormattedView, formatted_sound, list_shows, list_word}
 
 -- ---- a formatted table
@@ -34,7 +34,7 @@ module _ (t : List ℕ) (f : Formatted t) where
   pub formatted_shows : FormattedView G (view G t)
   formatted_shows = subst (λ u. FormattedView G (view G u)) f.holds (list_shows t G f.long)
 
-  pub formatted_passes : fault_of t ≡ Passed G
+  pub formatted_passes : fault_of t ≡ Ok G
   formatted_passes =
       let fair = f.fair in
       let s = sized G.nodes G.items G.frames (both (in_ranges G.nodes G.items G.frames) fair).0 in
@@ -89,7 +89,6 @@ go_on_working = record {
       (rw a.stores (already_formatted t g a.fair a.long), a.usable);
   again = λ t f h.
       let g = f.geometry in
-      format_carried t _ _ _ refl (allowed_made _ _ _ f.fair) (le-ltb (2 * g.items) g.frames h) refl
-      (le-ltb (length t) (words_of g) f.long);
+      format_carried t _ _ _ (geometry_fits t _ _ _ (allowed_made _ _ _ f.fair) (le-ltb (2 * g.items) g.frames h) f.long);
   never_used = λ t g. used_most g (view g t);
 }

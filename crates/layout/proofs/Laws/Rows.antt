@@ -1,14 +1,16 @@
 -- The laws of `specs/code/Rows.antt`.
 use Prim.Native.Nat.{ℕ, ◌+◌, ◌-◌, ◌≤◌, ◌<◌}
 use mathlib.Core.Path.{◌≡◌, refl, ap, sym, ◌∙◌}
-use mathlib.Core.List.{List, [], ◌∷◌, map}
+use mathlib.Core.List.{map}
 use native.Mathlib.Omega.{arith}
 use native.Mathlib.Numerals.{add-one}
 use borrow.Author.Tests.{eq-eqb, ne_eqb, lt-ltb, le-ltb}
-use Rattle.table.specs.declared.geometry.Geometry.{Geometry}
+use Rattle.table.specs.declared.stores.Stores.{Stores}
 use Rattle.table.specs.Words.{invalid}
-use Rattle.table.specs.Stores.{state_to, value_to, kept_to, entry_store, runs, Stored, StoredIn}
-use Rattle.table.proofs.Laws.Stores.{stored_then, stored_as, loop-starts, loop-turns, loop-ends}
+use Rattle.table.specs.Stores.{entry_store, runs}
+use Rattle.table.specs.Made.{Made, MadeIn}
+use Rattle.table.proofs.Laws.Stores.{loop-turns}
+use Rattle.table.proofs.Laws.Made.{made_as, made_starts, made_turn, made_ends}
 use Rattle.layout.specs.code.Rows.{next_ahead, ahead_at, place_ahead, fresh_entry, row_entry}
 
 -- ---- the ways of the code
@@ -34,39 +36,30 @@ module _ (first second ahead : ℕ) where
   unfolding place_ahead
   place_none h = rw (ne_eqb ahead 0 (λ z. omega arith), ne_eqb ahead 1 (λ z. omega arith))
 
--- the words of an entry, through the store of one word
-pub fresh_then :
-    {g : Geometry} {n b place left left₁ left₂ left₃ : ℕ} {t t₁ t₂ t₃ : List ℕ} → StoredIn g left n b (state_to place invalid ∷ []) t t₁ left₁
-    → StoredIn g left₁ n b (value_to 0 ∷ []) t₁ t₂ left₂ → StoredIn g left₂ n b (kept_to 0 ∷ []) t₂ t₃ left₃
-    → StoredIn g left n b (fresh_entry place) t t₃ left₃
-fresh_then first second third = stored_then first (stored_then second third)
-
 -- the loop: the items before b are stored
-pub record Row (g : Geometry) (n first second around left : ℕ) (b ahead : ℕ) (t t' : List ℕ) (left' : ℕ) : Type 0 where
-  pub within : b ≤ g.items
+pub record Row (n first second around : ℕ) (s : Stores) (b ahead : ℕ) (s' : Stores) : Type 0 where
   pub distance : ahead ≡ ahead_at around n b
-  pub stored : Stored g left (runs (row_entry n first second around) b) t t' left'
+  pub made : Made s (runs (row_entry n first second around) b) s'
 
-module _ {g : Geometry} {n first second around left : ℕ} {t : List ℕ} where
-  pub row_starts : Row g n first second around left 0 n t t left
+module _ {n first second around : ℕ} {s : Stores} where
+  pub row_starts : Row n first second around s 0 n s
   unfolding ahead_at
-  row_starts = record { within = omega arith; distance = refl; stored = loop-starts g (row_entry n first second around) left t }
+  row_starts = record { distance = refl; made = made_starts (row_entry n first second around) s }
 
   pub row_turns :
-      {b ahead place left₁ left₂ r : ℕ} {t₁ t₂ : List ℕ} → Row g n first second around left b ahead t t₁ left₁ → b < g.items
-      → place ≡ place_ahead first second ahead → StoredIn g left₁ n b (fresh_entry place) t₁ t₂ left₂ → r ≡ next_ahead around ahead
-      → Row g n first second around left (b + 1) r t t₂ left₂
+      {b ahead place r : ℕ} {s₁ s₂ : Stores} → Row n first second around s b ahead s₁ → place ≡ place_ahead first second ahead
+      → MadeIn s₁ n b (fresh_entry place) s₂ → r ≡ next_ahead around ahead → Row n first second around s (b + 1) r s₂
   unfolding ahead_at
-  row_turns {b} w h p s e =
+  row_turns {b} w p m e =
       record {
-        within = omega arith;
         distance = rw add-one (e ∙ ap (next_ahead around) w.distance);
-        stored =
-            loop-turns (row_entry n first second around) b w.stored
-            (stored_as (ap (λ x. map (entry_store n b) (fresh_entry x)) (ap (place_ahead first second) (sym w.distance) ∙ sym p)) s);
+        made =
+            made_turn w.made
+            (made_as (ap (λ x. map (entry_store n b) (fresh_entry x)) (ap (place_ahead first second) (sym w.distance) ∙ sym p)) m)
+            (loop-turns (row_entry n first second around) b w.made.stored);
       }
 
   pub row_ends :
-      {b ahead left' : ℕ} {t' : List ℕ} → Row g n first second around left b ahead t t' left' → g.items ≤ b
-      → Stored g left (runs (row_entry n first second around) g.items) t t' left'
-  row_ends {b} w h = loop-ends (row_entry n first second around) b g.items w.within h w.stored
+      {b ahead : ℕ} {s' : Stores} → Row n first second around s b ahead s' → b ≤ s.g.items → s.g.items ≤ b
+      → Made s (runs (row_entry n first second around) s.g.items) s'
+  row_ends {b} w h k = made_ends (row_entry n first second around) b _ h k w.made

@@ -1,4 +1,5 @@
 -- Laws of `specs/Report.antt`: numbers that stand for an argument.
+use Rattle.std.specs.Prelude.{Option}
 use Prim.Native.Nat.{ℕ, ◌≤◌, ◌<◌}
 use mathlib.Core.Path.{◌≡◌, refl}
 use mathlib.Core.List.{List}
@@ -6,7 +7,6 @@ use borrow.Author.Tests.{lt-ltb, le-ltb}
 use Rattle.homes.specs.declared.places.Place.{Place}
 use Rattle.homes.specs.Places.{place_by}
 use Rattle.homes.specs.Evict.{evict_of}
-use Rattle.survivors.specs.declared.lost.Lost.{Lost}
 use Rattle.survivors.specs.Survivors.{lost_by}
 use Rattle.recovery.specs.Recover.{recover_of}
 use Rattle.linkspan.specs.Report.{malformed, planned, evict_asked, recover_asked}
@@ -27,6 +27,6 @@ module _ (t : List ℕ) {none : ℕ} (lost scratch : ℕ) where
   unfolding recover_asked
   recover_unasked h = rw (lt-ltb 1 none h) refl
 
-  pub recover_asked_lem : {x : Lost} → x ≡ lost_by none lost → none ≤ 1 → recover_asked t none lost scratch ≡ planned (recover_of t x scratch)
+  pub recover_asked_lem : {x : Option ℕ} → x ≡ lost_by none lost → none ≤ 1 → recover_asked t none lost scratch ≡ planned (recover_of t x scratch)
   unfolding recover_asked
   recover_asked_lem e h = rw (le-ltb 1 none h, e) refl

@@ -1,16 +1,15 @@
 -- Laws of `specs/Report.antt`: where a node's entries lie.
+use Rattle.std.specs.Prelude.{Err, Ok}
 use Prim.Native.Nat.{ℕ, ◌+◌, ◌-◌, ◌*◌}
-use mathlib.Core.Path.{◌≡◌, refl, sym, ap, ◌∙◌}
+use mathlib.Core.Path.{◌≡◌, refl, sym, ap}
 use mathlib.Core.List.{List}
 use native.Mathlib.Omega.{arith}
 use lib.ListN.{take, drop}
+use Rattle.std.specs.declared.ops.Range.{Range}
 use Rattle.table.specs.declared.answers.Refusal.{Refusal}
-use Rattle.table.specs.declared.answers.Answer.TheVariants.{Refused as Turned}
 use Rattle.table.specs.declared.answers.Numbers.{Numbers}
 use Rattle.table.specs.Geometry.{entry_words, entry_at}
-use Rattle.table.specs.Answers.{Plan, refuse, nothing_left, carry, numbers_of}
-use Rattle.layout.specs.declared.stretch.Span.{Span}
-use Rattle.layout.specs.declared.stretch.Span.TheVariants.{Entries, Refused}
+use Rattle.table.specs.Answers.{Plan, refuse, nothing_left, carry, refusal_number}
 use Rattle.layout.specs.Stretch.{stretch_of, stretch_part, span_by, Spanned}
 use Rattle.layout.proofs.Laws.Stretch.{answer_refused, answer_yes}
 use Rattle.linkspan.specs.Report.{part_start, part_words, PartReports}
@@ -27,31 +26,31 @@ part_is {t} {n} h = rw (h.started, h.counted) (go (stretch_of t n))
 
 -- ---- the ways of the code
 
-module _ (t : List ℕ) (n : ℕ) {at : Span} (s : Spanned t n at) where
-  pub part_refused : {x : Refusal} {k : Numbers} → at ≡ Refused x → k ≡ numbers_of (Turned x) → PartReports t n 0 0 k.answer
-  part_refused e h =
-      let p = answer_refused t n s e in
+module _ (t : List ℕ) (n : ℕ) where
+  pub part_refused : {x : Refusal} {k : ℕ} → Spanned t n (Err x) → k ≡ refusal_number x → PartReports t n 0 0 k
+  part_refused s h =
+      let p = answer_refused t n s in
       record { answered = rw (h, p) refl; started = rw p refl; counted = rw p refl; within = omega arith }
 
-  pub part_found : {start end : ℕ} → at ≡ Entries start end → PartReports t n start (end - start) 0
+  pub part_found : {span : Range ℕ} → Spanned t n (Ok span) → PartReports t n span.start (span.end - span.start) 0
   unfolding span_by
-  part_found {start} {end} e =
-      let k = lies (stretch_of t n) (sym s.is ∙ e) in
-      let w = s.within start end e in
+  part_found {span} s =
+      let k = lies (stretch_of t n) (sym s.is) in
+      let w = s.within span refl in
       record {
-        answered = ap (λ (x : Numbers). x.answer) ((answer_yes t n s e).meets 0).numbers;
+        answered = ap (λ (x : Numbers). x.answer) ((answer_yes t n s).meets 0).numbers;
         started = k.0;
         counted = k.1;
         within = omega (arith, w.0, w.1);
       }
     where
-      lies : (p : Plan) → span_by n p ≡ Entries start end → (start ≡ part_start n p) × (end - start ≡ part_words p)
+      lies : (p : Plan) → span_by n p ≡ Ok span → (span.start ≡ part_start n p) × (span.end - span.start ≡ part_words p)
       lies (refuse x) e = let z : ◌≡◌ {A = ℕ} 0 1 = cc in absurd (omega arith)
       lies nothing_left e =
-          let a : 0 ≡ start = cc in
-          let b : 0 ≡ end = cc in
+          let a : 0 ≡ span.start = cc in
+          let b : 0 ≡ span.end = cc in
           (omega arith, omega arith)
       lies (carry g value ss) e =
-          let a : entry_at g n 0 ≡ start = cc in
-          let b : entry_at g n 0 + entry_words * g.items ≡ end = cc in
+          let a : entry_at g n 0 ≡ span.start = cc in
+          let b : entry_at g n 0 + entry_words * g.items ≡ span.end = cc in
           (omega arith, omega arith)

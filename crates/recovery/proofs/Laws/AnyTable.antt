@@ -1,4 +1,5 @@
 -- Any accepted Recover, on any table at all, leaves each item on exactly two survivors, at the value of the copies that it found, and a table that passes its checks.
+use Rattle.std.specs.Prelude.{Option}
 use Prim.Native.Nat.{ℕ, ◌<◌}
 use mathlib.Core.Path.{◌≡◌, refl, ap}
 use mathlib.Core.Bool.{Bool, true, not}
@@ -17,7 +18,6 @@ use Rattle.entries.specs.Frames.{sets_of, frames_fit}
 use Rattle.entries.specs.Sound.{marks_form, states_form, node_sound, nodes_sound}
 use Rattle.homes.proofs.Laws.Kept.{Live, live_test, test_live}
 use Rattle.homes.proofs.Laws.Serves.{Serves}
-use Rattle.survivors.specs.declared.lost.Lost.{Lost}
 use Rattle.counting.specs.Counting.{exists}
 use Rattle.counting.proofs.Laws.Exists.{exists_at, not_exists}
 use Rattle.survivors.specs.Survivors.{survivors, largest_number}
@@ -69,7 +69,7 @@ module _ (g : Geometry) (w : View) (formed : survivors_formed g w ≡ true) (fit
     point = refl;
   }
 
-module _ (t : List ℕ) (lost : Lost) (scratch : ℕ) {g : Geometry} {x : ℕ} {ss : List Store} (accepted : recover_of t lost scratch ≡ carry g x ss) where
+module _ (t : List ℕ) (lost : Option ℕ) (scratch : ℕ) {g : Geometry} {x : ℕ} {ss : List Store} (accepted : recover_of t lost scratch ≡ carry g x ss) where
   abbrev w : View
   w = survivors lost (view g t)
 

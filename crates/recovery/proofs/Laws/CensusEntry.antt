@@ -14,7 +14,6 @@ use Rattle.counting.proofs.Laws.Tests.{by_cases, no_both}
 use Rattle.counting.proofs.Laws.Differences.{none_differ}
 use Rattle.counting.specs.Counting.{every, one}
 use Rattle.counting.proofs.Laws.Counting.{every_at, one_le, one_same}
-use Rattle.table.proofs.Laws.Geometry.{product}
 use Rattle.table.specs.Words.{current_of, kept_of}
 use Rattle.table.specs.View.{Entry, current, kept, entry_in}
 use Rattle.table.specs.Copies.{copy_number, copy_value}
@@ -111,10 +110,6 @@ module _ (forward : Bool) (w : ℕ) {r : ℕ} (h : r ≡ side_bits forward (top_
       none_out false = refl
 
 -- ---- what the code makes of an entry
-
--- what a copy adds to a tally, far from overflow
-pub adds_small : (r step : ℕ) → step < 2 ^ 32 → r / 1024 % 2048 * step ≤ 2048 * 2 ^ 32
-adds_small r step h = product 2048 (2 ^ 32) (omega arith) (omega arith)
 
 place_read : (t : List ℕ) (at place : ℕ) → place ≤ 1 → get_or t (at + 1 + place) 0 ≡ cond (eqb place 0) (get_or t (at + 1) 0) (get_or t (at + 2) 0)
 place_read t at place h = elim (ℕ_discrete place 0) [

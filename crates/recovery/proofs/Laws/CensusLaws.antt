@@ -1,4 +1,5 @@
 -- The census as the code goes: a law for each turn and each way out.
+use Rattle.std.specs.Prelude.{Option}
 use Prim.Native.Nat.{ℕ, ◌+◌, ◌*◌, ◌/◌, ◌%◌, ◌^◌, ◌≤◌, ◌<◌}
 use mathlib.Core.Path.{◌≡◌, refl, sym, ap, ap₂, subst, ◌∙◌}
 use mathlib.Core.Bool.{Bool, true, false, ◌&&◌, and-true, and_comm}
@@ -25,7 +26,6 @@ use Rattle.table.specs.Copies.{copy_number}
 use Rattle.entries.specs.Frames.{set_frames, frames_in}
 use Rattle.entries.specs.Sound.{marks_form, node_sound, nodes_sound}
 use Rattle.entries.proofs.Laws.Sound.{node_dead}
-use Rattle.survivors.specs.declared.lost.Lost.{Lost}
 use Rattle.recovery.specs.declared.census.Turn.{Turn}
 use Rattle.recovery.specs.declared.census.Note.{Note}
 use Rattle.recovery.specs.declared.census.Found.{Found}
@@ -35,11 +35,11 @@ use Rattle.survivors.specs.Survivors.{survivors}
 use Rattle.survivors.proofs.Laws.SurvivorsCode.{survivor_entry}
 use Rattle.recovery.specs.Sides.{copy_on}
 use Rattle.recovery.specs.code.Rows.{state_in, Listed, reached, RowTo}
-use Rattle.recovery.proofs.Laws.Rows.{reached_start, reached_next, listed_turn, listed_end, row_room}
+use Rattle.recovery.proofs.Laws.Rows.{reached_start, reached_next, listed_turn, listed_end}
 use Rattle.recovery.proofs.Laws.RowsSound.{row_start, row_turn, row_all, row_sound}
 use Rattle.recovery.specs.code.Tallies.{number_weight, step_of}
 use Rattle.recovery.specs.code.Notes.{has_on, NotedTo, equal_to}
-use Rattle.recovery.proofs.Laws.Notes.{Notable, noted_start, noted_rooms, noted_same, noted_turn, noted_all, note_dead, note_live, equal_dead, equal_live, number_blank, note_zeros, notes_fit}
+use Rattle.recovery.proofs.Laws.Notes.{Notable, noted_start, noted_turn, noted_all, note_dead, note_live, equal_dead, equal_live, number_blank, note_zeros, notes_fit}
 use Rattle.recovery.specs.code.Census.{EntryNoted, RowReady, RowNoted, side_weight, held_on, Takable, CensusTo, NodeReady, NodeNoted, NodesNoted, KindsTold, TakenIn}
 
 -- ---- a row
@@ -92,11 +92,6 @@ passed_start forward v n l s f = record {
   held_to = rw (reached_start l) (count_none _);
 }
 
-pub entry_small :
-    {forward : Bool} {step : ℕ} {e : Entry} {j : ℕ} {s s' f f' : List ℕ} {r : Note} → EntryNoted forward step e j s s' f f' r → r.weight < 2 ^ 52
-entry_small m = let w = m.weighed in
-    omega (arith, w.is, w.frames_few, w.first_few, w.second_few, w.out_few, w.place_few, w.has_few)
-
 -- the entry that the code reads is the view's
 entry_here :
     (g : Geometry) (n : ℕ) (t : List ℕ) (j : ℕ) {start : ℕ} → n < g.nodes → j < g.items → Placed g n 0 start
@@ -128,21 +123,6 @@ module _ (g : Geometry) (forward : Bool) (n : ℕ) (t : List ℕ) {start : ℕ} 
 
   frames_few : g.items ≤ 256 → k ≤ many → p.frames ≤ 512
   frames_few sized q = omega (arith, p.row.few, reached_few sized q)
-
-  pub passed_small : g.items ≤ 256 → k ≤ many → sum < 2 ^ 62
-  passed_small sized q =
-      omega (arith, p.is, frames_few sized q, reached_few sized q, p.first_few, p.second_few, p.out_few, p.place_few, p.held_few)
-
-  -- what the entry's turn needs
-  pub passed_asks :
-      {l₀ : List ℕ} {step : ℕ} → RowReady g n t l₀ s f → n < 256 → step ≡ step_of n → k < many
-      → (start + 3 * get_or l k 0 + 2 < length t) × ((get_or l k 0 < length s') × ((get_or l k 0 < length f') × ((get_or s' (get_or l k 0) 0 < 2 ^ 62) × (step < 2 ^ 32))))
-  passed_asks r h e q =
-      let b = o.notable.listed.below k q in
-      let a = noted_rooms forward (view g t) n g o.notable k p.noted q in (
-        omega (arith, row_room g t n o.there o.placed r.long),
-        (a.0, (a.1, (omega (arith, noted_same forward (view g t) n g o.notable k p.noted q, r.few (get_or l k 0) b), omega (arith, e)))),
-      )
 
   -- after it
   passed_next :
@@ -192,8 +172,8 @@ module _ (g : Geometry) (forward : Bool) (n : ℕ) (t : List ℕ) {start : ℕ} 
       passed_next q (subst (λ (x : ℕ). EntryNoted forward x (entry_in t (start + 3 * get_or l k 0)) (get_or l k 0) s' s₁ f' f₁ r) e m)
 
   pub passed_all :
-      g.items ≤ 256 → k ≤ many → many ≤ k → {l₀ : List ℕ} → length l ≡ length l₀
-      → RowNoted g forward (view g t) n l₀ l s s' f f'
+      g.items ≤ 256 → k ≤ many → many ≤ k → {l₀ l₁ : List ℕ} → length l₁ ≡ length l₀
+      → RowNoted g forward (view g t) n l₀ l₁ s s' f f'
       (record { forms = eqb low 0 && eqb (sum / 2 ^ 30 % 1024) 0; frames = sum % 1024; held = sum / 2 ^ 50; agree = eqb differ 0 })
   passed_all sized a b z =
       let c = reached_few sized a in
@@ -233,7 +213,7 @@ row_ready g forward w n h r = record {
   few = λ j l. omega (arith, r.before.tally j l, sum_most n (2 ^ 40) (side_weight forward w j) (λ k q. weight_small forward w j k (omega arith)));
 }
 
-module _ (g : Geometry) (forward : Bool) (lost : Lost) (v : View) (n : ℕ) {mark : ℕ} {form : Bool} (h : mark ≡ (survivors lost v).mark n) (m : form ≡ mark_form mark)
+module _ (g : Geometry) (forward : Bool) (lost : Option ℕ) (v : View) (n : ℕ) {mark : ℕ} {form : Bool} (h : mark ≡ (survivors lost v).mark n) (m : form ≡ mark_form mark)
     {t l s f u : List ℕ} (r : NodeReady g forward (survivors lost v) n t l s f u) where
   census_dead : mark ≡ 0 → CensusTo g forward (survivors lost v) (n + 1) s f u
   unfolding side_weight

@@ -1,5 +1,6 @@
 -- Stages of stores, each a function of the view that it finds: code that reads the table as it stands makes the stores of the whole list, cut anywhere.
 -- If anything is left of the limit nothing was cut, so the table is the one that the list speaks of; if nothing is left nothing is stored.
+use Rattle.std.specs.Prelude.{None, Option, Some}
 use Prim.Native.Nat.{ℕ, zero, suc, ◌≤◌, ◌<◌}
 use mathlib.Core.Path.{◌≡◌, refl, sym, ap, ◌∙◌}
 use mathlib.Core.List.{List, [], ◌∷◌, ◌++◌, map}
@@ -12,8 +13,6 @@ use Rattle.table.specs.Stores.{Change, Store, size_store, mark_store, entry_stor
 use Rattle.table.proofs.Laws.Stores.{All, none, more, all_runs, after_zero, stored_then, stored_as}
 use Rattle.table.specs.View.{View, view, update, updates, pass}
 use Rattle.table.proofs.Laws.ViewAfter.{Within, view_after}
-use Rattle.survivors.specs.declared.lost.Lost.{Lost}
-use Rattle.survivors.specs.declared.lost.Lost.TheVariants.{Nobody, Node}
 use Rattle.survivors.specs.Survivors.{survivors}
 
 -- nothing left: the same for another list
@@ -68,13 +67,13 @@ entered_pass g nd it changes places within =
     all_runs (λ k. map (entry_store (nd k) (it k)) (changes k)) places
     (λ k h. entered_changes g (nd k) (it k) (changes k) (within k h).0 (within k h).1)
 
-one_entered : (lost : Lost) (n b : ℕ) (c : Change) (v : View) → survivors lost (update (entry_store n b c) v) ≡ update (entry_store n b c) (survivors lost v)
-one_entered Nobody n b c v = refl
-one_entered (Node m) n b c v = refl
+one_entered : (lost : Option ℕ) (n b : ℕ) (c : Change) (v : View) → survivors lost (update (entry_store n b c) v) ≡ update (entry_store n b c) (survivors lost v)
+one_entered None n b c v = refl
+one_entered (Some m) n b c v = refl
 
 -- the lost mark is no matter to such stores
 pub survivors_entered :
-    (g : Geometry) {ss : List Store} (lost : Lost) (v : View) → All (Entered g) ss → survivors lost (updates ss v) ≡ updates ss (survivors lost v)
+    (g : Geometry) {ss : List Store} (lost : Option ℕ) (v : View) → All (Entered g) ss → survivors lost (updates ss v) ≡ updates ss (survivors lost v)
 survivors_entered g lost v none = refl
 survivors_entered g lost v (more {s = size_store h} p a) = absurd p
 survivors_entered g lost v (more {s = mark_store n w} p a) = absurd p
@@ -82,7 +81,7 @@ survivors_entered g lost v (more {s = entry_store n b c} {ss} p a) =
     survivors_entered g lost (update (entry_store n b c) v) a ∙ ap (λ (u : View). updates ss u) (one_entered lost n b c v)
 
 pub stage_follows :
-    {g : Geometry} {pre : List Store} {l₀ l l' : ℕ} {t₀ t t' : List ℕ} (lost : Lost) (f : View → List Store) → words_of g ≤ length t₀
+    {g : Geometry} {pre : List Store} {l₀ l l' : ℕ} {t₀ t t' : List ℕ} (lost : Option ℕ) (f : View → List Store) → words_of g ≤ length t₀
     → All (Entered g) pre → Stored g l₀ pre t₀ t l → Stored g l (f (survivors lost (view g t))) t t' l'
     → Stored g l₀ (pre ++ f (updates pre (survivors lost (view g t₀)))) t₀ t' l'
 stage_follows {g} {pre} {t₀ = t₀} lost f long within s r =

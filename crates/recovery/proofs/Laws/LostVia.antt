@@ -1,4 +1,5 @@
 -- Recover on a view: the lost mark, and then the stages.
+use Rattle.std.specs.Prelude.{None, Option, Some}
 use Prim.Native.Nat.{ℕ}
 use mathlib.Core.Path.{◌≡◌, refl, sym, ap, ◌∙◌, subst, fun_ext}
 use mathlib.Core.Bool.{false, not}
@@ -9,8 +10,6 @@ use Rattle.table.specs.Stores.{mark_store}
 use Rattle.table.specs.View.{View, put₁, update}
 use Rattle.table.proofs.Laws.Puts.{put₁_case}
 use Rattle.table.proofs.Laws.Via.{Via, step, via_loosen}
-use Rattle.survivors.specs.declared.lost.Lost.{Lost}
-use Rattle.survivors.specs.declared.lost.Lost.TheVariants.{Nobody, Node}
 use Rattle.survivors.specs.Survivors.{survivors, lost_outside, too_few}
 use Rattle.recovery.specs.Recover.{recover_stores}
 use Rattle.recovery.proofs.Laws.Ready.{Ready, Going}
@@ -23,18 +22,18 @@ use Rattle.recovery.proofs.Laws.RecoverVia.{survivors_via}
 put_again : (f : ℕ → ℕ) (n : ℕ) → f n ≡ 0 → put₁ f n 0 ≡ f
 put_again f n z = fun_ext (λ k. put₁_case (λ y. y ≡ f k) f n 0 k (λ e. sym (ap f e ∙ z)) (λ _. refl))
 
-pub lost_again : (n : ℕ) (u : View) → u.mark n ≡ 0 → survivors (Node n) u ≡ u
+pub lost_again : (n : ℕ) (u : View) → u.mark n ≡ 0 → survivors (Some n) u ≡ u
 lost_again n u z = λ i. record { mark = put_again u.mark n z i; entry = u.entry }
 
 -- ---- the lost mark before them
 
 pub recover_via :
-    (g : Geometry) (saved : ℕ → ℕ) (number : ℕ) (lost : Lost) (v : View) → lost_outside g lost ≡ false → Ready g saved number (survivors lost v)
+    (g : Geometry) (saved : ℕ → ℕ) (number : ℕ) (lost : Option ℕ) (v : View) → lost_outside g lost ≡ false → Ready g saved number (survivors lost v)
     → too_few g (survivors lost v) ≡ false
     → Via g (λ u. Going g saved number (survivors lost v) (survivors lost u)) (Recovered g saved number (survivors lost v)) v (recover_stores g lost v)
 unfolding recover_stores
-recover_via g saved number Nobody v inside r room = survivors_via g saved number v r room
-recover_via g saved number (Node n) v inside r room =
+recover_via g saved number None v inside r room = survivors_via g saved number v r room
+recover_via g saved number (Some n) v inside r room =
     let w = update (mark_store n 0) v in
     step {s = mark_store n 0} (record { ready = r; same = λ k. refl }) (leb-false g.nodes n inside)
     (via_loosen (survivors_via g saved number w r room)

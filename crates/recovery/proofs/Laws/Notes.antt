@@ -1,4 +1,5 @@
 -- The laws of `specs/code/Notes.antt`.
+use Rattle.std.specs.Prelude.{Option}
 use Prim.Native.Nat.{ℕ, ◌+◌, ◌*◌, ◌≤◌, ◌<◌}
 use mathlib.Core.Path.{◌≡◌, refl, sym, ap, ap₂, ◌∙◌}
 use mathlib.Core.Bool.{Bool, true, false, cond, not, ◌&&◌, ◌||◌, and-true}
@@ -18,7 +19,6 @@ use Rattle.table.specs.Changes.{change_of, checkpoint_of}
 use Rattle.table.proofs.Laws.Changes.{checkpoint_low}
 use Rattle.table.specs.View.{Entry, View, current, kept}
 use Rattle.table.specs.Copies.{back_by, copy_number}
-use Rattle.survivors.specs.declared.lost.Lost.{Lost}
 use Rattle.survivors.specs.Survivors.{survivors}
 use Rattle.survivors.proofs.Laws.SurvivorsCode.{survivor_entry}
 use Rattle.recovery.specs.Sides.{copy_on, copies_on, item_fits}
@@ -76,9 +76,6 @@ module _ (forward : Bool) (v : View) (n : ℕ) {firsts tallies firsts' tallies' 
     pub noted_here : k < count → NotedTo forward v n firsts tallies (get_or l k 0) firsts' tallies' agree
     noted_here q = listed_turn (λ i. NotedTo forward v n firsts tallies i firsts' tallies' agree) (state_in v n) noted_blank o.listed k q r
 
-    pub noted_rooms : k < count → (get_or l k 0 < length tallies') × (get_or l k 0 < length firsts')
-    noted_rooms q = let b = o.listed.below k q in (omega (arith, o.tallies_room, r.tallies_row.size), omega (arith, o.firsts_room, r.firsts_row.size))
-
     pub noted_same : k < count → get_or tallies' (get_or l k 0) 0 ≡ get_or tallies (get_or l k 0) 0
     noted_same q = (noted_here q).tallies_row.kept (get_or l k 0) (omega arith)
 
@@ -106,7 +103,7 @@ module _ (forward : Bool) (v : View) (n : ℕ) {firsts tallies firsts' tallies' 
 
 -- ---- all nodes
 
-module _ (forward : Bool) (lost : Lost) (v : View) (j n : ℕ) {mark : ℕ} (h : mark ≡ (survivors lost v).mark n) where
+module _ (forward : Bool) (lost : Option ℕ) (v : View) (j n : ℕ) {mark : ℕ} (h : mark ≡ (survivors lost v).mark n) where
   copies_dead : mark ≡ 0 → copies_to forward (survivors lost v) j (n + 1) ≡ copies_to forward (survivors lost v) j n
   copies_dead d = copies_next forward (survivors lost v) j n ∙ rw (← h, eq-eqb mark 0 d) refl
 
@@ -146,7 +143,7 @@ met_seen number n s x tally h f =
     (λ p. let some = step_some (number_weight number) n (weight_some number h p) in
     rw (p, ne_eqb (tally + number_weight number * step_of n) 0 (λ (q : tally + number_weight number * step_of n ≡ 0). omega (arith, some))) (sym (Met-some s x)))
 
-module _ (g : Geometry) (forward : Bool) (lost : Lost) (v : View) (n : ℕ) {mark : ℕ} (h : mark ≡ (survivors lost v).mark n) where
+module _ (g : Geometry) (forward : Bool) (lost : Option ℕ) (v : View) (n : ℕ) {mark : ℕ} (h : mark ≡ (survivors lost v).mark n) where
   pub equal_dead : mark ≡ 0 → {equal : Bool} → equal ≡ equal_to g forward (survivors lost v) n → (equal && true) ≡ equal_to g forward (survivors lost v) (n + 1)
   unfolding equal_to
   equal_dead d {equal} e =

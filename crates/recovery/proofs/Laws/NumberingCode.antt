@@ -1,4 +1,5 @@
 -- The laws of `specs/code/NumberingCode.antt`.
+use Rattle.std.specs.Prelude.{Option}
 use Prim.Native.Nat.{ℕ, ◌+◌, ◌-◌, ◌*◌, ◌/◌, ◌%◌, ◌≤◌, ◌<◌}
 use mathlib.Core.Path.{◌≡◌, refl, sym, ap, ◌∙◌}
 use mathlib.Core.Bool.{true, false, cond, not, ◌&&◌}
@@ -11,11 +12,10 @@ use lib.ListN.{length, get_or}
 use borrow.Author.Tests.{eq-eqb, ne_eqb}
 use Rattle.counting.proofs.Laws.Tests.{by_cases}
 use Rattle.counting.specs.Counting.{one}
-use Rattle.counting.specs.code.Counting.{Counted}
 use Rattle.counting.proofs.Laws.Counting.{count_none, count_next, count_le, count_ext}
 use Rattle.table.specs.declared.geometry.Geometry.{Geometry}
 use Rattle.table.specs.Geometry.{words_of}
-use Rattle.table.specs.Words.{invalid, shared_ck1, shared_ck2, current_of, shared_ck}
+use Rattle.table.specs.Words.{invalid, current_of, shared_ck}
 use Rattle.table.specs.Changes.{checkpoint_of}
 use Rattle.table.proofs.Laws.Changes.{checkpoint_low}
 use Rattle.table.specs.Stores.{Store, Stored, entry_store, runs}
@@ -24,7 +24,6 @@ use Rattle.table.specs.View.{Entry, View, view, live, current, pass}
 use Rattle.table.proofs.Laws.Pass.{columns_within, grid_once}
 use Rattle.table.proofs.Laws.PassLeaves.{pass_marks, pass_entry}
 use Rattle.entries.specs.Tally.{has}
-use Rattle.survivors.specs.declared.lost.Lost.{Lost}
 use Rattle.recovery.specs.declared.numbering.Holders.{Holders}
 use Rattle.recovery.proofs.Laws.Followed.{stored_any}
 use Rattle.survivors.specs.Survivors.{survivors}
@@ -34,22 +33,16 @@ use Rattle.survivors.proofs.Laws.SurvivorsCode.{survivor_entry, survivor_marks}
 use Rattle.recovery.proofs.Laws.RollingCode.{runs_empty}
 use Rattle.recovery.specs.code.Tallies.{plain}
 use Rattle.recovery.proofs.Laws.Tallies.{plain_nothing}
-use Rattle.recovery.specs.code.NumberingCode.{survivor_code, no_holders, of_number, Met, HoldersTo, number_by, Numberable, Numbering}
+use Rattle.recovery.specs.code.NumberingCode.{survivor_code, of_number, Met, HoldersTo, number_by, Numberable, Numbering}
 
 -- ---- the copy of one node
-
-pub counted_yes : (c d : ℕ) → c ≡ d → Counted (eqb c d) 1
-counted_yes c d h = record { is = rw (eq-eqb c d h) refl; small = omega arith }
-
-pub counted_no : (c d : ℕ) → (c ≡ d → ⊥) → Counted (eqb c d) 0
-counted_no c d h = record { is = rw (ne_eqb c d h) refl; small = omega arith }
 
 pub code_dead : (w : View) (b n : ℕ) {mark : ℕ} → mark ≡ w.mark n → mark ≡ 0 → invalid ≡ survivor_code w b n
 unfolding survivor_code
 code_dead w b n h d = rw (← h, eq-eqb _ 0 d) refl
 
 pub code_live :
-    (lost : Lost) (v : View) (b n : ℕ) {mark state c : ℕ} → mark ≡ (survivors lost v).mark n → (mark ≡ 0 → ⊥) → state ≡ (v.entry n b).state
+    (lost : Option ℕ) (v : View) (b n : ℕ) {mark state c : ℕ} → mark ≡ (survivors lost v).mark n → (mark ≡ 0 → ⊥) → state ≡ (v.entry n b).state
     → c ≡ current_of state → c ≡ survivor_code (survivors lost v) b n
 unfolding survivor_code
 code_live lost v b n h d s e = rw (← h, ne_eqb _ 0 d, survivor_entry lost v, ← s) e
@@ -60,18 +53,6 @@ unfolding survivor_code
 held_as w b code n d = by_cases (live w n) (λ e. rw e refl) (λ e. rw (e, ne_eqb 0 code (λ z. d (sym z))) refl)
 
 -- ---- the holders of an item
-
-pub met_both :
-    (c : ℕ) (h : Holders) {x y : ℕ} → Counted (eqb c shared_ck1) x → Counted (eqb c shared_ck2) y
-    → Met c h (record { first = h.first + x; second = h.second + y })
-met_both c h p q = record { first = rw p.is refl; second = rw q.is refl }
-
-module _ (h : Holders) (number : ℕ) where
-  pub of_first : number ≡ 1 → h.first ≡ of_number h number
-  of_first e = rw (eq-eqb number 1 e) refl
-
-  pub of_second : (number ≡ 1 → ⊥) → h.second ≡ of_number h number
-  of_second d = rw (ne_eqb number 1 d) refl
 
 holders_one : (w : View) (b number n : ℕ) {x y : ℕ} → x ≡ holders w b number n → y ≡ x + one (eqb (survivor_code w b n) (shared_ck number))
     → y ≡ holders w b number (n + 1)
@@ -87,10 +68,10 @@ module _ (w : View) (b : ℕ) where
   holders_made : (n : ℕ) {h : Holders} → h.first ≡ holders w b 1 n → h.second ≡ holders w b 2 n → HoldersTo w b n h
   holders_made n p q = record { first = p; second = q; few = holders_few w b 1 n p; fewer = holders_few w b 2 n q }
 
-  pub holders_start : {h : Holders} → h ≡ no_holders → HoldersTo w b 0 h
+  pub holders_start : {h : Holders} → (h.first ≡ 0) × (h.second ≡ 0) → HoldersTo w b 0 h
   unfolding holders
   holders_start e =
-      holders_made 0 (ap (λ h. h.first) e ∙ count_none (has w b (shared_ck 1))) (ap (λ h. h.second) e ∙ count_none (has w b (shared_ck 2)))
+      holders_made 0 (e.0 ∙ count_none (has w b (shared_ck 1))) (e.1 ∙ count_none (has w b (shared_ck 2)))
 
   pub holders_turn : (n : ℕ) {h r : Holders} {c : ℕ} → HoldersTo w b n h → c ≡ survivor_code w b n → Met c h r → HoldersTo w b (n + 1) r
   holders_turn n h e m =
@@ -162,12 +143,12 @@ changes_by g w n b {c} h p q =
 -- ---- one item: a turn finds its entry as it was at the item's start, whatever the limit
 
 survivor_code_same :
-    (lost : Lost) (v u : View) (b n : ℕ) → u.mark n ≡ v.mark n → u.entry n b ≡ v.entry n b
+    (lost : Option ℕ) (v u : View) (b n : ℕ) → u.mark n ≡ v.mark n → u.entry n b ≡ v.entry n b
     → survivor_code (survivors lost u) b n ≡ survivor_code (survivors lost v) b n
 unfolding survivor_code
 survivor_code_same lost v u b n m e = rw (survivor_marks lost v u n m, survivor_entry lost u, survivor_entry lost v, e) refl
 
-module _ (g : Geometry) (lost : Lost) (b n : ℕ) (hn : n < g.nodes) (hb : b < g.items) {left left₁ : ℕ} {t t₁ : List ℕ} (long : words_of g ≤ length t)
+module _ (g : Geometry) (lost : Option ℕ) (b n : ℕ) (hn : n < g.nodes) (hb : b < g.items) {left left₁ : ℕ} {t t₁ : List ℕ} (long : words_of g ≤ length t)
     (s : Stored g left (pass (λ d. d) (λ d. b) (λ d. number_change g (survivors lost (view g t)) d b) n) t t₁ left₁) where
   turn_mark : (view g t₁).mark n ≡ (view g t).mark n
   turn_mark =
@@ -195,7 +176,7 @@ module _ (g : Geometry) (lost : Lost) (b n : ℕ) (hn : n < g.nodes) (hb : b < g
       loop-turns _ n s (stored_as (ap (map (entry_store n b)) same) r)
 
 pub number_nothing :
-    (g : Geometry) (lost : Lost) {left b tally : ℕ} {t : List ℕ} → Numberable g lost left t b tally → plain tally ≡ true
+    (g : Geometry) (lost : Option ℕ) {left b tally : ℕ} {t : List ℕ} → Numberable g lost left t b tally → plain tally ≡ true
     → Stored g left (pass (λ d. d) (λ d. b) (λ d. number_change g (survivors lost (view g t)) d b) g.nodes) t t left
 number_nothing g lost {left} {b} {tally} {t} h p = elim (ℕ_discrete left 0) [
   | yes z ↦ rw z (stored_any (pass (λ d. d) (λ d. b) (λ d. number_change g (survivors lost (view g t)) d b) g.nodes) (stored_none g 0 t))
@@ -228,7 +209,7 @@ pub numbers_end :
 unfolding numbers_before number_stores
 numbers_end g w b h k s = let e : b ≡ g.items = omega arith in rw e at s
 
-module _ (g : Geometry) (lost : Lost) (b : ℕ) (hb : b < g.items) {left left₁ : ℕ} {t t₁ : List ℕ} (long : words_of g ≤ length t)
+module _ (g : Geometry) (lost : Option ℕ) (b : ℕ) (hb : b < g.items) {left left₁ : ℕ} {t t₁ : List ℕ} (long : words_of g ≤ length t)
     (s : Stored g left (numbers_before g (survivors lost (view g t)) b) t t₁ left₁) where
   within : (d : ℕ) → d < b * g.nodes → (d % g.nodes < g.nodes) × (d / g.nodes < g.items)
   within d l = let r = columns_within g.nodes b d l in (r.0, omega (arith, r.1))

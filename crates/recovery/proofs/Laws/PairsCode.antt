@@ -1,18 +1,20 @@
 -- The laws of `specs/code/PairsCode.antt`.
+use Rattle.std.specs.Prelude.{Option}
 use Prim.Native.Nat.{ℕ, ◌≤◌, ◌<◌}
 use mathlib.Core.Path.{◌≡◌, sym, ap, subst, ◌∙◌}
 use mathlib.Core.Bool.{Bool, true}
 use mathlib.Core.List.{List, []}
 use native.Mathlib.Omega.{arith}
 use native.Mathlib.Decide.{ℕ_discrete}
-use lib.ListN.{length}
+use lib.ListN.{length, drop}
 use Rattle.table.specs.declared.geometry.Geometry.{Geometry}
 use Rattle.table.specs.Geometry.{words_of}
-use Rattle.table.specs.Stores.{Store, Stored}
+use Rattle.table.specs.declared.stores.Stores.{Stores}
+use Rattle.table.specs.Made.{Made, shown}
+use Rattle.table.proofs.Laws.Made.{made_none, made_with}
 use Rattle.table.proofs.Laws.Stores.{All, stored_none}
 use Rattle.table.specs.View.{View, view, updates}
 use Rattle.checkpoints.specs.Checkpoint.{entries_to}
-use Rattle.survivors.specs.declared.lost.Lost.{Lost}
 use Rattle.survivors.specs.Survivors.{survivors, largest_number}
 use Rattle.recovery.specs.Sides.{roll_change, roll_stores}
 use Rattle.recovery.specs.Numbering.{number_stores, partners_stores}
@@ -21,7 +23,7 @@ use Rattle.recovery.proofs.Laws.Tallies.{holders_told, holder_told}
 use Rattle.recovery.specs.code.NumberingCode.{Unkept}
 use Rattle.recovery.proofs.Laws.Followed.{Entered, stored_any, view_left, entered_within, survivors_entered}
 use Rattle.recovery.specs.code.PartnersCode.{AgreesTo, Ready, Turned, Filled, FilledFrom, Settled, Settles}
-use Rattle.recovery.proofs.Laws.PartnersCode.{filled_ready, filled_then}
+use Rattle.recovery.proofs.Laws.PartnersCode.{filled_ready}
 use Rattle.recovery.proofs.Laws.RecoverStages.{entered_roll, entered_number}
 use Rattle.recovery.proofs.Laws.RollVia.{roll_via}
 use Rattle.recovery.proofs.Laws.NumberVia.{number_via}
@@ -30,53 +32,71 @@ use Rattle.recovery.proofs.Laws.AnyTable.{found, any_ready}
 use Rattle.recovery.proofs.Laws.CensusRolled.{rolled_tallied, rolled_unkept, rolled_agrees, plain_numbers}
 use Rattle.recovery.specs.code.PairsCode.{Pairable, Pairs, Restorable}
 
--- ---- what the code needs
+-- ---- before the partners
 
-module _ (g : Geometry) (lost : Lost) {left : ℕ} {plain : Bool} {t s tallies u : List ℕ} (p : Pairable g lost left plain t s tallies u) where
+-- the copies are numbered, and the scratch tells the frames in use
+pub record Counted (lost : Option ℕ) (a a₁ : Stores) (s s₁ tallies : List ℕ) : Type 0 where
+  pub numbered : Made a (number_stores a.g (survivors lost (shown a))) a₁
+  pub ready : Ready lost a₁ s₁
+  pub settles : Settles lost a₁ tallies
+  pub rest : drop a₁.g.nodes s₁ ≡ drop a₁.g.nodes s
+  pub size : length s₁ ≡ length s
+
+pub counted_all :
+    {lost : Option ℕ} {a a₁ : Stores} {s s₁ tallies : List ℕ} → Counted lost a a₁ s s₁ tallies
+    → Ready lost a₁ s₁ × Settles lost a₁ tallies
+counted_all k = (k.ready, k.settles)
+
+-- and then the partners
+pub counted_pairs :
+    {lost : Option ℕ} {a a₁ a₂ : Stores} {s s₁ s₂ tallies : List ℕ} → Counted lost a a₁ s s₁ tallies
+    → Turned lost (partners_stores a₁.g) a₁ a₂ s₁ s₂ → Pairs lost a a₂ s s₂
+counted_pairs {a₁ = a₁} k r = record {
+  between = a₁;
+  numbered = k.numbered;
+  partnered = record { made = r.made; counts = r.counts; rest = r.rest ∙ k.rest; size = r.size ∙ k.size };
+}
+
+module _ (lost : Option ℕ) {plain : Bool} {a : Stores} {s tallies u : List ℕ} (p : Pairable lost plain a s tallies u) where
   abbrev w : View
-  w = survivors lost (view g t)
+  w = survivors lost (shown a)
 
-  -- ---- nothing to number
+  -- nothing to number
+  pub plain_counted : plain ≡ true → {s₁ : List ℕ} → FilledFrom a.g.nodes a.g.nodes u s s₁ → Counted lost a a s s₁ tallies
+  plain_counted e f = record {
+    numbered = made_with (made_none a) (elim (ℕ_discrete a.left 0) [
+      | yes z ↦ rw z (stored_any (number_stores a.g w) (stored_none a.g 0 a.table.now))
+      | no z ↦ rw (p.nothing e z) (stored_none a.g a.left a.table.now)
+    ]);
+    ready = record {
+      long = p.numbering.long;
+      room = omega (arith, p.room, f.size);
+      counts = record { known = λ z. record { at = λ n l v. f.same n l ∙ (p.agrees e z).at n l v } };
+    };
+    settles = record { settled = λ z. rw (p.nothing e z) at (p.settled z) };
+    rest = f.rest;
+    size = f.size;
+  }
 
-  module _ (e : plain ≡ true) where
-    pub plain_settles : Settles g lost left t tallies
-    plain_settles = record { settled = λ z. subst (λ (ss : List Store). Settled g (updates ss w) tallies) (p.nothing e z) (p.settled z) }
-
-    module _ {s₁ : List ℕ} (f : FilledFrom g.nodes g.nodes u s s₁) where
-      pub plain_ready : Ready g lost left t s₁
-      plain_ready = record {
-        long = p.numbering.long;
-        room = omega (arith, p.room, f.size);
-        counts = record { known = λ z. record { at = λ n l a. f.same n l ∙ (p.agrees e z).at n l a } };
-      }
-
-      pub plain_pairs : {left' : ℕ} {t' s' : List ℕ} → Turned g lost (partners_stores g) left t t' s₁ s' left' → Pairs g lost left t t' s s' left'
-      plain_pairs r = record {
-        between = t;
-        left_between = left;
-        numbered = elim (ℕ_discrete left 0) [
-          | yes z ↦ rw z (stored_any (number_stores g w) (stored_none g 0 t))
-          | no z ↦ rw (p.nothing e z) (stored_none g left t)
-        ];
-        partnered = record { stores = r.stores; counts = r.counts; rest = r.rest ∙ f.rest; size = r.size ∙ f.size };
-      }
-
-  -- ---- surplus copies
-
-  module _ {left₁ : ℕ} {t₁ : List ℕ} (a : Stored g left (number_stores g w) t t₁ left₁) where
-    numbered_view : (left₁ ≡ 0 → ⊥) → survivors lost (view g t₁) ≡ updates (number_stores g w) w
+  -- surplus copies
+  module _ {a₁ : Stores} (m : Made a (number_stores a.g w) a₁) where
+    numbered_view : (a₁.left ≡ 0 → ⊥) → survivors lost (view a.g a₁.table.now) ≡ updates (number_stores a.g w) w
     numbered_view z =
-        ap (survivors lost) (view_left p.numbering.long (entered_within g (entered_number g w)) z a) ∙ survivors_entered g lost (view g t) (entered_number g w)
+        ap (survivors lost) (view_left p.numbering.long (entered_within a.g (entered_number a.g w)) z m.stored)
+        ∙ survivors_entered a.g lost (shown a) (entered_number a.g w)
 
-    pub surplus_settles : Settles g lost left₁ t₁ tallies
-    surplus_settles = record { settled = λ z. subst (λ (x : View). Settled g x tallies) (sym (numbered_view z)) (p.settled (λ q. z (omega (arith, a.rest)))) }
-
-    module _ {s₁ : List ℕ} (f : Filled g (survivors lost (view g t₁)) g.nodes s s₁) where
-      pub surplus_ready : Ready g lost left₁ t₁ s₁
-      surplus_ready = filled_ready g lost f (omega (arith, p.numbering.long, a.size)) p.room
-
-      pub surplus_pairs : {left' : ℕ} {t' s' : List ℕ} → Turned g lost (partners_stores g) left₁ t₁ t' s₁ s' left' → Pairs g lost left t t' s s' left'
-      surplus_pairs r = record { between = t₁; left_between = left₁; numbered = a; partnered = filled_then g lost f r }
+    pub surplus_counted : {s₁ : List ℕ} → Filled a₁.g (survivors lost (shown a₁)) a₁.g.nodes s s₁ → Counted lost a a₁ s s₁ tallies
+    surplus_counted f = record {
+      numbered = m;
+      ready = filled_ready lost f (rw m.same_geometry (omega (arith, p.numbering.long, m.stored.size))) (rw m.same_geometry p.room);
+      settles = record {
+        settled = λ z.
+            rw m.same_geometry
+            (subst (λ (x : View). Settled a.g x tallies) (sym (numbered_view z)) (p.settled (λ q. z (omega (arith, m.stored.rest)))));
+      };
+      rest = f.rest;
+      size = f.size;
+    }
 
 -- ---- after the rolling
 
@@ -111,26 +131,29 @@ module _ (g : Geometry) {forward simple : Bool} (w : View) {tallies u : List ℕ
   rolled_frames = rolled_agrees g forward w (any_ready g w r.formed r.fit).forms r.held
 
 pub rolled_pairable :
-    (g : Geometry) (lost : Lost) {forward simple : Bool} {left left₁ : ℕ} {t t₁ s tallies u : List ℕ} → words_of g ≤ length t → g.nodes ≤ length s
-    → g.nodes ≤ length u → g.nodes < 256 → Restorable g forward simple (survivors lost (view g t)) tallies u
-    → Stored g left (entries_to g (survivors lost (view g t)) (roll_change forward)) t t₁ left₁ → Pairable g lost left₁ simple t₁ s tallies u
+    (lost : Option ℕ) {forward simple : Bool} {a a₁ : Stores} {s tallies u : List ℕ} → words_of a.g ≤ length a.table.now
+    → a.g.nodes ≤ length s → a.g.nodes ≤ length u → a.g.nodes < 256 → Restorable a.g forward simple (survivors lost (shown a)) tallies u
+    → Made a (entries_to a.g (survivors lost (shown a)) (roll_change forward)) a₁ → Pairable lost simple a₁ s tallies u
 unfolding roll_stores
-rolled_pairable g lost {forward} {simple} {left₁ = left₁} {t} {t₁} {tallies = tallies} {u} long room used small r a = record {
-  room = room;
-  used_room = used;
-  numbering = record {
-    long = omega (arith, a.size);
+rolled_pairable lost {forward} {a = a} {a₁} long room used small r m = record {
+  room = rw m.same_geometry room;
+  used_room = rw m.same_geometry used;
+  numbering = rw m.same_geometry record {
+    long = omega (arith, long, m.stored.size);
     room = r.tallies_room;
-    tallied = λ z. rw (viewed z) (rolled_tallies g (survivors lost (view g t)) small r);
-    unkept = λ z. rw (viewed z) (rolled_nothing_kept g (survivors lost (view g t)) small r);
+    tallied = λ z. rw (viewed z) (rolled_tallies a.g (survivors lost (shown a)) small r);
+    unkept = λ z. rw (viewed z) (rolled_nothing_kept a.g (survivors lost (shown a)) small r);
   };
-  settled = λ z. rw (viewed z) (rolled_settled g (survivors lost (view g t)) small r);
-  nothing = λ e z. rw (viewed z) (rolled_nothing g (survivors lost (view g t)) small r e);
-  agrees = λ e z. rw (viewed z) (rolled_frames g (survivors lost (view g t)) small r);
+  settled = λ z. rw (m.same_geometry, viewed z) (rolled_settled a.g (survivors lost (shown a)) small r);
+  nothing = λ e z. rw (m.same_geometry, viewed z) (rolled_nothing a.g (survivors lost (shown a)) small r e);
+  agrees = λ e z. rw (m.same_geometry, viewed z) (rolled_frames a.g (survivors lost (shown a)) small r);
 }
   where
-    entered : All (Entered g) (entries_to g (survivors lost (view g t)) (roll_change forward))
-    entered = rw (← r.way) at (entered_roll g (survivors lost (view g t)))
+    entered : All (Entered a.g) (entries_to a.g (survivors lost (shown a)) (roll_change forward))
+    entered = rw (← r.way) at (entered_roll a.g (survivors lost (shown a)))
 
-    viewed : (left₁ ≡ 0 → ⊥) → survivors lost (view g t₁) ≡ updates (entries_to g (survivors lost (view g t)) (roll_change forward)) (survivors lost (view g t))
-    viewed z = ap (survivors lost) (view_left long (entered_within g entered) z a) ∙ survivors_entered g lost (view g t) entered
+    viewed :
+        (a₁.left ≡ 0 → ⊥) → survivors lost (view a.g a₁.table.now)
+        ≡ updates (entries_to a.g (survivors lost (shown a)) (roll_change forward)) (survivors lost (shown a))
+    viewed z =
+        ap (survivors lost) (view_left long (entered_within a.g entered) z m.stored) ∙ survivors_entered a.g lost (shown a) entered

@@ -1,5 +1,6 @@
 -- The laws of `specs/code/PartnersCode.antt`.
-use Prim.Native.Nat.{ℕ, zero, suc, ◌+◌, ◌-◌, ◌%◌, ◌≤◌, ◌<◌}
+use Rattle.std.specs.Prelude.{None, Option, Some}
+use Prim.Native.Nat.{ℕ, zero, suc, ◌+◌, ◌-◌, ◌≤◌, ◌<◌}
 use mathlib.Core.Path.{◌≡◌, refl, sym, ap, subst, ◌∙◌}
 use mathlib.Core.Bool.{Bool, true, false, cond, ◌&&◌}
 use mathlib.Core.List.{List, [], ◌∷◌, map}
@@ -8,7 +9,7 @@ use native.Mathlib.Decide.{ℕ_discrete}
 use native.Mathlib.Numerals.{add-one}
 use lib.Dec.{eqb, ltb}
 use lib.ListN.{length, get_or, set, length-set}
-use lib.Seq.{drop-set-lt, get_or-set_same, get_or-set_other}
+use lib.Seq.{drop-set-lt}
 use borrow.Author.Tests.{eq-eqb, ne_eqb, eqb-true, ltb-true}
 use Rattle.counting.proofs.Laws.Tests.{both, no_both, by_cases}
 use Rattle.counting.specs.Counting.{count, first}
@@ -17,23 +18,25 @@ use Rattle.counting.proofs.Laws.First.{first_le, first_least}
 use Rattle.counting.proofs.Laws.Cyclic.{first_after_below, first_after_ext, after_found}
 use Rattle.table.specs.declared.geometry.Geometry.{Geometry}
 use Rattle.table.specs.Geometry.{words_of}
-use Rattle.table.specs.Words.{current_of, kept_of, invalid, shared_ck}
+use Rattle.table.specs.Words.{current_of, invalid, shared_ck}
 use Rattle.table.specs.Changes.{checkpoint_of}
-use Rattle.table.specs.Stores.{Store, Stored, StoredIn, entry_store, value_to, state_to}
+use Rattle.table.specs.Stores.{Store, Stored, entry_store, value_to, state_to}
+use Rattle.table.specs.code.Stores.{StoredIn}
 use Rattle.table.proofs.Laws.Stores.{stored_none, stored_as, stored_two, All, none, all_then}
+use Rattle.table.specs.declared.stores.Stores.{Stores}
+use Rattle.table.specs.Made.{MadeIn, shown}
+use Rattle.table.proofs.Laws.Made.{made_none, made_with, made_more}
 use Rattle.table.specs.View.{Entry, View, view, live, current, updates}
 use Rattle.entries.specs.Frames.{set_frames, used, frames_at}
 use Rattle.entries.specs.Tally.{copy}
-use Rattle.survivors.specs.declared.lost.Lost.{Lost}
-use Rattle.survivors.specs.declared.lost.Lost.TheVariants.{Nobody, Node}
 use Rattle.survivors.specs.Survivors.{survivors}
 use Rattle.survivors.proofs.Laws.SurvivorsCode.{survivor_entry}
 use Rattle.recovery.specs.Numbering.{single, holder_of, takes, partner_of, partner_changes, partner_from}
 use Rattle.recovery.specs.Numbering.{partner_stores, staged, partners_stores}
 use Rattle.recovery.proofs.Laws.Followed.{stored_any, view_left, Entered, entered_changes, entered_within, survivors_entered, stage_follows}
 use Rattle.recovery.specs.code.PartnersCode.{AgreesTo, Counts, used_with, takes_by, partner_by, UsedBy, Filled}
-use Rattle.recovery.specs.code.PartnersCode.{Ready, Turned, FilledFrom}
-use Rattle.recovery.proofs.Laws.PartnersCounts.{agrees_start, agrees_turn, partner_agrees}
+use Rattle.recovery.specs.code.PartnersCode.{Ready, Turned, Single}
+use Rattle.recovery.proofs.Laws.PartnersCounts.{agrees_turn, partner_agrees}
 
 -- ---- the test and the search, by the table and by the scratch
 
@@ -73,13 +76,12 @@ module _ (g : Geometry) (w : View) (s : List ℕ) (b : ℕ) where
     pub found_room : g.nodes ≤ length s → p < length s
     found_room room = omega (arith, found_takes.there)
 
-    -- far from overflow
-    pub found_few : g.frames < 65536 → get_or s p 0 < 65536
-    found_few l = omega (arith, found_takes.few)
+    pub found_few : get_or s p 0 < set_frames g
+    found_few = found_takes.few
 
 -- ---- whether a node can take a partner
 
-module _ (lost : Lost) (v : View) (b n : ℕ) {mark : ℕ} (h : mark ≡ (survivors lost v).mark n) where
+module _ (lost : Option ℕ) (v : View) (b n : ℕ) {mark : ℕ} (h : mark ≡ (survivors lost v).mark n) where
   module _ (g : Geometry) (s : List ℕ) where
     pub takes_dead : mark ≡ 0 → false ≡ takes_by g (survivors lost v) s b n
     unfolding takes_by
@@ -91,13 +93,6 @@ module _ (lost : Lost) (v : View) (b n : ℕ) {mark : ℕ} (h : mark ≡ (surviv
     unfolding takes_by
     takes_live e p q r k = rw (← h, ne_eqb mark 0 e, survivor_entry lost v, q, p, r, k) refl
 
--- ---- the partner's code: the absent number
-
-pub code_absent :
-    (state : ℕ) {c number code : ℕ} → c ≡ current_of state → number ≡ checkpoint_of c → code ≡ shared_ck ((3 - number) % 4)
-    → code ≡ shared_ck (3 - checkpoint_of (current_of state))
-code_absent state h e q = rw (← h) (omega (arith, e, q))
-
 -- ---- the partner's stores: "(value, state)"; the premises are in the order of the code's stores
 
 pub partner_made :
@@ -108,69 +103,62 @@ pub partner_made :
 unfolding partner_changes
 partner_made p b e hx hs hd a d = rw (← hs, ← hx, ← hd) (stored_two a d)
 
--- ---- the frames of a node that takes a partner
-
-module _ (n state : ℕ) {k : ℕ} (h : k ≡ kept_of state) where
-  pub with_free : k ≡ invalid → n + 1 ≡ used_with n state
-  unfolding used_with
-  with_free e = rw (← h, eq-eqb k invalid e) refl
-
-  pub with_kept : (k ≡ invalid → ⊥) → n ≡ used_with n state
-  unfolding used_with
-  with_kept e = rw (← h, ne_eqb k invalid e) refl
-
 -- ---- the partner of one copy
 
-module _ (g : Geometry) (lost : Lost) (b n : ℕ) {left p : ℕ} {t s : List ℕ} (ready : Ready g lost left t s)
-    (e : p ≡ partner_by g (survivors lost (view g t)) s b n) where
+module _ (lost : Option ℕ) (b n : ℕ) {a : Stores} {p : ℕ} {s : List ℕ} (ready : Ready lost a s)
+    (e : p ≡ partner_by a.g (survivors lost (shown a)) s b n) where
   -- with the scratch's partner in the place of the table's: the same while anything is left
   same_stores :
       {left' : ℕ} {t' : List ℕ}
-      → Stored g left (cond (eqb p n) [] (map (entry_store p b) (partner_changes ((survivors lost (view g t)).entry n b)))) t t' left'
-      → Stored g left (partner_from g (survivors lost (view g t)) b n) t t' left'
+      → Stored a.g a.left (cond (eqb p n) [] (map (entry_store p b) (partner_changes ((survivors lost (shown a)).entry n b))))
+      a.table.now t' left'
+      → Stored a.g a.left (partner_from a.g (survivors lost (shown a)) b n) a.table.now t' left'
   unfolding partner_from
-  same_stores r = elim (ℕ_discrete left 0) [
-    | yes z ↦ (let r' = rw z at r in rw z (stored_any (partner_from g (survivors lost (view g t)) b n) r'))
-    | no z ↦ rw (← partner_same g (survivors lost (view g t)) s b (ready.counts.known z) n, ← e) r
+  same_stores r = elim (ℕ_discrete a.left 0) [
+    | yes z ↦ (let r' = rw z at r in rw z (stored_any (partner_from a.g (survivors lost (shown a)) b n) r'))
+    | no z ↦ rw (← partner_same a.g (survivors lost (shown a)) s b (ready.counts.known z) n, ← e) r
   ]
 
-  pub from_none : p ≡ n → Turned g lost (λ w. partner_from g w b n) left t t s s left
+  pub from_none : p ≡ n → Turned lost (λ w. partner_from a.g w b n) a a s s
   from_none q = record {
-    stores = same_stores (stored_as (rw (eq-eqb p n q) refl) (stored_none g left t));
+    made = made_with (made_none a) (same_stores (stored_as (rw (eq-eqb p n q) refl) (made_none a).stored));
     counts = ready.counts;
     rest = refl;
     size = refl;
   }
 
   pub from_made :
-      b < g.items → (p ≡ n → ⊥) → {state u used left' : ℕ} {t' : List ℕ} → state ≡ ((view g t).entry p b).state → u ≡ get_or s p 0
-      → used ≡ used_with u state
-      → StoredIn g left p b (partner_changes ((view g t).entry n b)) t t' left'
-      → Turned g lost (λ w. partner_from g w b n) left t t' s (set s p used) left'
-  from_made item d {state} {u} {used} {left'} {t'} q k f r = record {
-    stores = same_stores (stored_as (rw (ne_eqb p n d, survivor_entry lost (view g t)) refl) r);
+      b < a.g.items → (p ≡ n → ⊥) → {used : ℕ} {a' : Stores} → used ≡ used_with (get_or s p 0) ((shown a).entry p b).state
+      → MadeIn a p b (partner_changes ((shown a).entry n b)) a'
+      → Turned lost (λ w. partner_from a.g w b n) a a' s (set s p used)
+  from_made item d {used} {a'} f r = record {
+    made = made_with r (same_stores (stored_as (rw (ne_eqb p n d, survivor_entry lost (shown a)) refl) r.stored));
     counts = record { known = after };
-    rest = drop-set-lt g.nodes s p used taker.there;
+    rest = drop-set-lt a.g.nodes s p used taker.there;
     size = length-set s p used;
   }
     where
-      taker : Taker g (survivors lost (view g t)) s b p
-      taker = found_takes g (survivors lost (view g t)) s b n e d
+      taker : Taker a.g (survivors lost (shown a)) s b p
+      taker = found_takes a.g (survivors lost (shown a)) s b n e d
 
-      entered : All (Entered g) (map (entry_store p b) (partner_changes ((view g t).entry n b)))
-      entered = entered_changes g p b (partner_changes ((view g t).entry n b)) taker.there item
+      entered : All (Entered a.g) (map (entry_store p b) (partner_changes ((shown a).entry n b)))
+      entered = entered_changes a.g p b (partner_changes ((shown a).entry n b)) taker.there item
 
-      viewed : (left' ≡ 0 → ⊥) → survivors lost (view g t') ≡ updates (map (entry_store p b) (partner_changes ((view g t).entry n b))) (survivors lost (view g t))
-      viewed more = ap (survivors lost) (view_left ready.long (entered_within g entered) more r) ∙ survivors_entered g lost (view g t) entered
+      viewed :
+          (a'.left ≡ 0 → ⊥) → survivors lost (view a.g a'.table.now)
+          ≡ updates (map (entry_store p b) (partner_changes ((shown a).entry n b))) (survivors lost (shown a))
+      viewed more =
+          ap (survivors lost) (view_left ready.long (entered_within a.g entered) more r.stored)
+          ∙ survivors_entered a.g lost (shown a) entered
 
-      counted : used ≡ used_with (get_or s p 0) ((survivors lost (view g t)).entry p b).state
-      counted = f ∙ rw (survivor_entry lost (view g t), q, k) refl
+      counted : used ≡ used_with (get_or s p 0) ((survivors lost (shown a)).entry p b).state
+      counted = f ∙ rw (survivor_entry lost (shown a)) refl
 
-      after : (left' ≡ 0 → ⊥) → AgreesTo g (survivors lost (view g t')) (set s p used) g.nodes
+      after : (a'.left ≡ 0 → ⊥) → AgreesTo a'.g (survivors lost (shown a')) (set s p used) a'.g.nodes
       after more =
-          rw (viewed more, counted)
-          (partner_agrees g (survivors lost (view g t)) p b ((view g t).entry n b) s item taker.free taker.there ready.room taker.alive
-          (ready.counts.known (λ z. more (omega (arith, r.rest)))))
+          rw (r.same_geometry, viewed more, counted)
+          (partner_agrees a.g (survivors lost (shown a)) p b ((shown a).entry n b) s item taker.free taker.there ready.room taker.alive
+          (ready.counts.known (λ z. more (omega (arith, r.stored.rest)))))
 
 -- ---- one item
 
@@ -186,28 +174,27 @@ holder_there g w b e =
     ]
 
 -- while anything is left of the limit the item has one copy, and its holder is told; so far as nothing is left nothing is stored, whatever it has
-module _ (g : Geometry) (lost : Lost) (b : ℕ) {left : ℕ} {t s : List ℕ}
-    (one : (left ≡ 0 → ⊥) → count (copy (survivors lost (view g t)) b) g.nodes ≡ 1) {h : ℕ} (q : (left ≡ 0 → ⊥) → h ≡ holder_of g (survivors lost (view g t)) b) where
+module _ (lost : Option ℕ) {b h : ℕ} {a : Stores} {s : List ℕ} (o : Single lost a b h) where
   pub item_single :
-      {left' : ℕ} {t' s' : List ℕ} → Turned g lost (λ w. partner_from g w b h) left t t' s s' left'
-      → Turned g lost (partner_stores g b) left t t' s s' left'
+      {a' : Stores} {s' : List ℕ} → Turned lost (λ w. partner_from a.g w b h) a a' s s'
+      → Turned lost (partner_stores a.g b) a a' s s'
   unfolding partner_stores single
   item_single r = record {
-    stores = elim (ℕ_discrete left 0) [
-      | yes z ↦ (let r' = rw z at r.stores in rw z (stored_any (partner_stores g b (survivors lost (view g t))) r'))
-      | no z ↦ rw (eq-eqb _ 1 (one z), ← q z) r.stores
-    ];
+    made = made_with r.made (elim (ℕ_discrete a.left 0) [
+      | yes z ↦ (let r' = rw z at r.made.stored in rw z (stored_any (partner_stores a.g b (survivors lost (shown a))) r'))
+      | no z ↦ rw (eq-eqb _ 1 (o.one z), ← o.is z) r.made.stored
+    ]);
     counts = r.counts;
     rest = r.rest;
     size = r.size;
   }
 
-  pub item_none : g.nodes ≤ h → Counts g lost left t s → Turned g lost (partner_stores g b) left t t s s left
+  pub item_none : a.g.nodes ≤ h → Counts lost a s → Turned lost (partner_stores a.g b) a a s s
   item_none l k = record {
-    stores = elim (ℕ_discrete left 0) [
-      | yes z ↦ rw z (stored_any (partner_stores g b (survivors lost (view g t))) (stored_none g 0 t))
-      | no z ↦ absurd (let m = holder_there g (survivors lost (view g t)) b (one z) in omega (arith, q z))
-    ];
+    made = made_with (made_none a) (elim (ℕ_discrete a.left 0) [
+      | yes z ↦ rw z (stored_any (partner_stores a.g b (survivors lost (shown a))) (stored_none a.g 0 a.table.now))
+      | no z ↦ absurd (let m = holder_there a.g (survivors lost (shown a)) b (o.one z) in omega (arith, o.is z))
+    ]);
     counts = k;
     rest = refl;
     size = refl;
@@ -215,15 +202,15 @@ module _ (g : Geometry) (lost : Lost) (b : ℕ) {left : ℕ} {t s : List ℕ}
 
 -- an item that has no single copy
 pub item_other :
-    (g : Geometry) (lost : Lost) (b : ℕ) {left : ℕ} {t s : List ℕ}
-    → ((left ≡ 0 → ⊥) → count (copy (survivors lost (view g t)) b) g.nodes ≡ 1 → ⊥)
-    → Counts g lost left t s → Turned g lost (partner_stores g b) left t t s s left
+    (lost : Option ℕ) (b : ℕ) {a : Stores} {s : List ℕ}
+    → ((a.left ≡ 0 → ⊥) → count (copy (survivors lost (shown a)) b) a.g.nodes ≡ 1 → ⊥)
+    → Counts lost a s → Turned lost (partner_stores a.g b) a a s s
 unfolding partner_stores single
-item_other g lost b {left} {t} {s} e k = record {
-  stores = elim (ℕ_discrete left 0) [
-    | yes z ↦ rw z (stored_any (partner_stores g b (survivors lost (view g t))) (stored_none g 0 t))
-    | no z ↦ rw (ne_eqb _ 1 (e z)) (stored_none g left t)
-  ];
+item_other lost b {a} e k = record {
+  made = made_with (made_none a) (elim (ℕ_discrete a.left 0) [
+    | yes z ↦ rw z (stored_any (partner_stores a.g b (survivors lost (shown a))) (stored_none a.g 0 a.table.now))
+    | no z ↦ rw (ne_eqb _ 1 (e z)) (stored_none a.g a.left a.table.now)
+  ]);
   counts = k;
   rest = refl;
   size = refl;
@@ -263,48 +250,48 @@ pub entered_partners : (g : Geometry) (w : View) → All (Entered g) (partners_s
 unfolding partners_stores
 entered_partners g w = entered_staged g g.items w (omega arith)
 
-module _ (g : Geometry) (lost : Lost) {left : ℕ} {t s : List ℕ} where
-  pub items_start : Counts g lost left t s → Turned g lost (staged (partner_stores g) 0) left t t s s left
+module _ (lost : Option ℕ) {a : Stores} {s : List ℕ} where
+  pub items_start : Counts lost a s → Turned lost (staged (partner_stores a.g) 0) a a s s
   unfolding staged
-  items_start k = record { stores = stored_none g left t; counts = k; rest = refl; size = refl }
+  items_start k = record { made = made_none a; counts = k; rest = refl; size = refl }
 
-  module _ (i : ℕ) {left₁ : ℕ} {t₁ s₁ : List ℕ} (r : Turned g lost (staged (partner_stores g) i) left t t₁ s s₁ left₁) where
-    pub items_ready : Ready g lost left t s → Ready g lost left₁ t₁ s₁
-    items_ready k = record { long = omega (arith, k.long, r.stores.size); room = omega (arith, k.room, r.size); counts = r.counts }
+  module _ (i : ℕ) {a₁ : Stores} {s₁ : List ℕ} (r : Turned lost (staged (partner_stores a.g) i) a a₁ s s₁) where
+    pub items_ready : Ready lost a s → Ready lost a₁ s₁
+    items_ready k = record {
+      long = rw r.made.same_geometry (omega (arith, k.long, r.made.stored.size));
+      room = rw r.made.same_geometry (omega (arith, k.room, r.size));
+      counts = r.counts;
+    }
 
     pub items_turn :
-        words_of g ≤ length t → i < g.items → {left₂ : ℕ} {t₂ s₂ : List ℕ} → Turned g lost (partner_stores g i) left₁ t₁ t₂ s₁ s₂ left₂
-        → Turned g lost (staged (partner_stores g) (i + 1)) left t t₂ s s₂ left₂
+        words_of a.g ≤ length a.table.now → i < a.g.items → {a₂ : Stores} {s₂ : List ℕ} → Turned lost (partner_stores a₁.g i) a₁ a₂ s₁ s₂
+        → Turned lost (staged (partner_stores a.g) (i + 1)) a a₂ s s₂
     unfolding staged
     items_turn long l q = record {
-      stores = rw add-one
-          (stage_follows lost (partner_stores g i) long (entered_staged g i (survivors lost (view g t)) (omega arith)) r.stores q.stores);
+      made = made_more r.made q.made
+          (rw add-one
+          (stage_follows lost (partner_stores a.g i) long (entered_staged a.g i (survivors lost (shown a)) (omega arith)) r.made.stored
+          (rw r.made.same_geometry at q.made.stored)));
       counts = q.counts;
-      rest = q.rest ∙ r.rest;
+      rest = (rw r.made.same_geometry at q.rest) ∙ r.rest;
       size = q.size ∙ r.size;
     }
 
-    pub items_end : i ≤ g.items → g.items ≤ i → Turned g lost (partners_stores g) left t t₁ s s₁ left₁
+    pub items_end : i ≤ a.g.items → a.g.items ≤ i → Turned lost (partners_stores a.g) a a₁ s s₁
     unfolding partners_stores
-    items_end h l = let e : i ≡ g.items = omega arith in rw e at r
+    items_end h l = let e : i ≡ a.g.items = omega arith in rw e at r
 
 -- ---- the frames in use, before the first item
 
-used_same : (g : Geometry) (lost : Lost) (v : View) (n : ℕ) → used g v n 0 ≡ used g (survivors lost v) n 0
+used_same : (g : Geometry) (lost : Option ℕ) (v : View) (n : ℕ) → used g v n 0 ≡ used g (survivors lost v) n 0
 unfolding used frames_at
-used_same g Nobody v n = refl
-used_same g (Node m) v n = refl
+used_same g None v n = refl
+used_same g (Some m) v n = refl
 
-pub used_dead : (g : Geometry) (lost : Lost) (v : View) (n : ℕ) {mark : ℕ} → mark ≡ (survivors lost v).mark n → mark ≡ 0 → UsedBy g (survivors lost v) n 0
-used_dead g lost v n {mark} h e = record { is = λ q. absurd (no_both q (rw (← h, eq-eqb mark 0 e) refl)) }
-
-pub used_live : (g : Geometry) (lost : Lost) (v : View) (n : ℕ) {r : ℕ} → r ≡ used g v n 0 → UsedBy g (survivors lost v) n r
+pub used_live : (g : Geometry) (lost : Option ℕ) (v : View) (n : ℕ) {r : ℕ} → r ≡ used g v n 0 → UsedBy g (survivors lost v) n r
 used_live g lost v n e = record { is = λ q. e ∙ used_same g lost v n }
 
 module _ (g : Geometry) (w : View) {s : List ℕ} where
-  pub filled_start : Filled g w 0 s s
-  filled_start = record { agrees = agrees_start g w s; rest = refl; size = refl }
-
   pub filled_turn :
       (k : ℕ) {x : ℕ} {s₁ : List ℕ} → k < g.nodes → g.nodes ≤ length s → UsedBy g w k x → Filled g w k s s₁ → Filled g w (k + 1) s (set s₁ k x)
   filled_turn k {x} {s₁} l room u f = record {
@@ -316,28 +303,7 @@ module _ (g : Geometry) (w : View) {s : List ℕ} where
   pub filled_end : (k : ℕ) {s₁ : List ℕ} → k ≤ g.nodes → g.nodes ≤ k → Filled g w k s s₁ → Filled g w g.nodes s s₁
   filled_end k h l f = let e : k ≡ g.nodes = omega arith in rw e at f
 
-module _ (n : ℕ) (u : List ℕ) {s : List ℕ} where
-  pub from_start : FilledFrom n 0 u s s
-  from_start = record { same = λ i l. absurd (omega arith); rest = refl; size = refl }
-
-  pub from_turn : (k : ℕ) {x : ℕ} {s₁ : List ℕ} → k < n → n ≤ length s → x ≡ get_or u k 0 → FilledFrom n k u s s₁ → FilledFrom n (k + 1) u s (set s₁ k x)
-  from_turn k {x} {s₁} l room e f = record {
-    same = λ i h. elim (ℕ_discrete i k) [
-      | yes q ↦ rw q (get_or-set_same s₁ k x 0 (omega (arith, f.size)) ∙ e)
-      | no q ↦ get_or-set_other s₁ k i x 0 q ∙ f.same i (omega arith)
-    ];
-    rest = drop-set-lt n s₁ k x l ∙ f.rest;
-    size = length-set s₁ k x ∙ f.size;
-  }
-
-  pub from_end : (k : ℕ) {s₁ : List ℕ} → k ≤ n → n ≤ k → FilledFrom n k u s s₁ → FilledFrom n n u s s₁
-  from_end k h l f = let e : k ≡ n = omega arith in rw e at f
-
 -- the scratch is filled, and then the items
-module _ (g : Geometry) (lost : Lost) {left : ℕ} {t s s₁ : List ℕ} (f : Filled g (survivors lost (view g t)) g.nodes s s₁) where
-  pub filled_ready : words_of g ≤ length t → g.nodes ≤ length s → Ready g lost left t s₁
+module _ (lost : Option ℕ) {a : Stores} {s s₁ : List ℕ} (f : Filled a.g (survivors lost (shown a)) a.g.nodes s s₁) where
+  pub filled_ready : words_of a.g ≤ length a.table.now → a.g.nodes ≤ length s → Ready lost a s₁
   filled_ready long room = record { long = long; room = omega (arith, f.size); counts = record { known = λ _. f.agrees } }
-
-  pub filled_then :
-      {left' : ℕ} {t' s' : List ℕ} → Turned g lost (partners_stores g) left t t' s₁ s' left' → Turned g lost (partners_stores g) left t t' s s' left'
-  filled_then r = record { stores = r.stores; counts = r.counts; rest = r.rest ∙ f.rest; size = r.size ∙ f.size }

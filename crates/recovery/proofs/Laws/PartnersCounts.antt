@@ -25,9 +25,6 @@ use Rattle.recovery.specs.code.PartnersCode.{AgreesTo, used_with}
 -- ---- the count fills up
 
 module _ (g : Geometry) (w : View) (s : List ℕ) where
-  pub agrees_start : AgreesTo g w s 0
-  agrees_start = record { at = λ n l. absurd (omega arith) }
-
   pub agrees_turn :
       (k x : ℕ) → k < length s → (live w k ≡ true → x ≡ used g w k 0) → AgreesTo g w s k → AgreesTo g w (set s k x) (k + 1)
   agrees_turn k x h e a = record {

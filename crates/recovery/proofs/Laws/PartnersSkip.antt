@@ -1,4 +1,5 @@
 -- Laws of `specs/code/PartnersCode.antt`: the items that a turn of the partner stage passes over.
+use Rattle.std.specs.Prelude.{Option}
 use Prim.Native.Nat.{ℕ, zero, suc, ◌+◌, ◌*◌, ◌≤◌, ◌<◌}
 use mathlib.Core.Path.{◌≡◌, refl, sym, ap, ◌∙◌}
 use mathlib.Core.Logic.{◌≢◌}
@@ -13,14 +14,15 @@ use Rattle.table.specs.Geometry.{entry_at, mark_at}
 use Rattle.table.proofs.Laws.Geometry.{entries_apart}
 use Rattle.table.specs.Stores.{Store, Change, size_store, mark_store, entry_store, Stored, address_of, part_of}
 use Rattle.table.proofs.Laws.Stores.{part_low, after_off, All, none, more, all_then}
+use Rattle.table.specs.declared.stores.Stores.{Stores}
+use Rattle.table.specs.Made.{shown}
 use Rattle.table.specs.View.{View, view, updates}
 use Rattle.table.proofs.Laws.View.{mark_read, entry_read, entry_same}
 use Rattle.entries.specs.Tally.{copy}
-use Rattle.survivors.specs.declared.lost.Lost.{Lost}
 use Rattle.survivors.specs.Survivors.{survivors}
 use Rattle.survivors.proofs.Laws.SurvivorsCode.{survivor_entry, survivor_marks}
 use Rattle.recovery.specs.Numbering.{holder_of, partner_changes, partner_stores, staged}
-use Rattle.recovery.specs.code.PartnersCode.{Ready, Turned, Single, Settles, Passable}
+use Rattle.recovery.specs.code.PartnersCode.{Ready, Turned, Settles, Passable}
 use Rattle.recovery.proofs.Laws.PartnersCode.{item_other, items_ready, all_partner}
 use Rattle.recovery.specs.code.Tallies.{holders_by, holder_by}
 
@@ -74,44 +76,41 @@ module _ (g : Geometry) (i : ℕ) {ss : List Store} {left left' : ℕ} {t t' : L
   mark_stays n hn =
       mark_read g t n hn (sym (mark_read g t' n hn refl) ∙ ap (λ u. get_or u (mark_at n) 0) s.table ∙ after_off g (mark_at n) left t (mark_off g i n hn a))
 
-  copy_stays : (lost : Lost) (b : ℕ) → b < g.items → i ≤ b → (n : ℕ) → n < g.nodes → copy (survivors lost (view g t')) b n ≡ copy (survivors lost (view g t)) b n
+  copy_stays : (lost : Option ℕ) (b : ℕ) → b < g.items → i ≤ b → (n : ℕ) → n < g.nodes → copy (survivors lost (view g t')) b n ≡ copy (survivors lost (view g t)) b n
   copy_stays lost b hb l n hn =
       rw (survivor_marks lost (view g t) (view g t') n (mark_stays n hn), survivor_entry lost (view g t'), survivor_entry lost (view g t), entry_stays n b hn hb l) refl
 
 -- ---- an item's turn
 
 pub turn_skipped :
-    (g : Geometry) (lost : Lost) {left b tally : ℕ} {t s : List ℕ} → Passable g lost left t s b tally → 1 < holders_by tally
-    → Turned g lost (partner_stores g b) left t t s s left
-turn_skipped g lost {left} {b} {tally} {t} {s} p h = item_other g lost b (λ z. (p.stands z).skip h) p.ready.counts
-
-pub turn_single :
-    (g : Geometry) (lost : Lost) {left b tally holder : ℕ} {t s : List ℕ} → Passable g lost left t s b tally → holders_by tally ≤ 1
-    → holder ≡ holder_by tally → Single g lost left t b holder
-turn_single g lost p h e = record { one = λ z. (p.stands z).single h; is = λ z. e ∙ (p.stands z).holder h }
+    (lost : Option ℕ) {b tally : ℕ} {a : Stores} {s : List ℕ} → Passable lost a s b tally → 1 < holders_by tally
+    → Turned lost (partner_stores a.g b) a a s s
+turn_skipped lost {b} p h = item_other lost b (λ z. (p.stands z).skip h) p.ready.counts
 
 pub turn_ready :
-    (g : Geometry) (lost : Lost) (i : ℕ) {left left₁ tally : ℕ} {t t₁ s s₁ tallies : List ℕ} → Ready g lost left t s → i < g.items
-    → Settles g lost left t tallies → tally ≡ get_or tallies i 0
-    → Turned g lost (staged (partner_stores g) i) left t t₁ s s₁ left₁ → Passable g lost left₁ t₁ s₁ i tally
+    (lost : Option ℕ) (i : ℕ) {tally : ℕ} {a a₁ : Stores} {s s₁ tallies : List ℕ} → Ready lost a s → i < a.g.items
+    → Settles lost a tallies → tally ≡ get_or tallies i 0
+    → Turned lost (staged (partner_stores a.g) i) a a₁ s s₁ → Passable lost a₁ s₁ i tally
 unfolding holder_of
-turn_ready g lost i {left} {left₁} {tally} {t} {t₁} k h u e r = record {
-  ready = items_ready g lost i r k;
-  there = h;
+turn_ready lost i {tally} {a} {a₁} k h u e r = record {
+  ready = items_ready lost i r k;
+  there = rw r.made.same_geometry h;
   stands = λ z.
-      let o = u.settled (λ q. z (omega (arith, r.stores.rest))) i h in
-      record {
+      let o = u.settled (λ q. z (omega (arith, r.made.stored.rest))) i h in
+      rw r.made.same_geometry record {
         skip = λ p q. o.skip (rw e at p) (sym stays ∙ q);
         single = λ p. stays ∙ o.single (rw e at p);
         holder = λ p. ap holder_by e ∙ o.holder (rw e at p) ∙ sym holder_stays;
       };
 }
   where
-    each : (n : ℕ) → n < g.nodes → copy (survivors lost (view g t₁)) i n ≡ copy (survivors lost (view g t)) i n
-    each = copy_stays g i (before_staged g i i (survivors lost (view g t)) (omega arith) (omega arith)) r.stores lost i h (omega arith)
+    each : (n : ℕ) → n < a.g.nodes → copy (survivors lost (view a.g a₁.table.now)) i n ≡ copy (survivors lost (shown a)) i n
+    each =
+        copy_stays a.g i (before_staged a.g i i (survivors lost (shown a)) (omega arith) (omega arith)) r.made.stored lost i h
+        (omega arith)
 
-    stays : count (copy (survivors lost (view g t₁)) i) g.nodes ≡ count (copy (survivors lost (view g t)) i) g.nodes
-    stays = count_ext g.nodes _ _ each
+    stays : count (copy (survivors lost (view a.g a₁.table.now)) i) a.g.nodes ≡ count (copy (survivors lost (shown a)) i) a.g.nodes
+    stays = count_ext a.g.nodes _ _ each
 
-    holder_stays : holder_of g (survivors lost (view g t₁)) i ≡ holder_of g (survivors lost (view g t)) i
-    holder_stays = first_ext g.nodes _ _ each
+    holder_stays : holder_of a.g (survivors lost (view a.g a₁.table.now)) i ≡ holder_of a.g (survivors lost (shown a)) i
+    holder_stays = first_ext a.g.nodes _ _ each

@@ -1,4 +1,5 @@
 -- Recover stores no word 0.
+use Rattle.std.specs.Prelude.{None, Option, Some}
 use Prim.Native.Nat.{ℕ, zero, suc, ◌*◌, ◌/◌, ◌%◌}
 use mathlib.Core.Bool.{Bool, true, false, cond}
 use mathlib.Core.List.{List, []}
@@ -10,8 +11,6 @@ use Rattle.table.proofs.Laws.Stores.{All, none, more, all_then}
 use Rattle.table.specs.View.{View, updates}
 use Rattle.homes.proofs.Laws.SoundKept.{Off, entry_off, pass_off}
 use Rattle.checkpoints.proofs.Laws.MarksSound.{marks_off, entries_off}
-use Rattle.survivors.specs.declared.lost.Lost.{Lost}
-use Rattle.survivors.specs.declared.lost.Lost.TheVariants.{Nobody, Node}
 use Rattle.survivors.specs.Survivors.{lost_stores, survivors, closing_stores}
 use Rattle.survivors.specs.Direction.{forward_in}
 use Rattle.recovery.specs.Sides.{roll_change, roll_stores}
@@ -65,11 +64,11 @@ module _ (g : Geometry) where
   mark_off : (n word : ℕ) → Off g (mark_store n word)
   mark_off n word e = omega arith
 
-  lost_off : (lost : Lost) → All (Off g) (lost_stores lost)
-  lost_off Nobody = none
-  lost_off (Node n) = more (mark_off n 0) none
+  lost_off : (lost : Option ℕ) → All (Off g) (lost_stores lost)
+  lost_off None = none
+  lost_off (Some n) = more (mark_off n 0) none
 
-  pub recover_off : (lost : Lost) (v : View) → All (Off g) (recover_stores g lost v)
+  pub recover_off : (lost : Option ℕ) (v : View) → All (Off g) (recover_stores g lost v)
   unfolding recover_stores survivor_stores
   recover_off lost v =
       all_then (lost_off lost)

@@ -1,4 +1,5 @@
 -- What an accepted Recover tells, and that with too few survivors none is accepted.
+use Rattle.std.specs.Prelude.{Err, Ok, Option, Result}
 use Prim.Native.Nat.{ℕ, ◌≤◌}
 use mathlib.Core.Path.{◌≡◌, refl, sym, ap, ◌∙◌}
 use mathlib.Core.Bool.{Bool, true, false, not, cond}
@@ -12,21 +13,16 @@ use Rattle.table.specs.Stores.{Store}
 use Rattle.table.specs.View.{View, view}
 use Rattle.table.specs.Answers.{Plan, refuse, carry}
 use Rattle.table.proofs.Laws.Answers.{refused_not}
-use Rattle.entries.specs.declared.check.Checked.{Checked}
-use Rattle.entries.specs.declared.check.Checked.TheVariants.{Passed, Failed}
 use Rattle.entries.specs.Check.{sizes_of}
-use Rattle.homes.specs.declared.admission.Admission.{Admission}
-use Rattle.homes.specs.declared.admission.Admission.TheVariants.{Admitted, Turned}
 use Rattle.homes.proofs.Laws.Admission.{passed}
-use Rattle.homes.specs.Admission.{plan_admitted}
-use Rattle.survivors.specs.declared.lost.Lost.{Lost}
+use Rattle.homes.specs.Admission.{Admission, plan_admitted}
 use Rattle.survivors.specs.Survivors.{survivors, lost_outside, too_few}
 use Rattle.recovery.specs.Sides.{items_fit}
 use Rattle.recovery.specs.Recover.{recover_stores, scratch_words, survivors_formed, recover_admission, recover_checked, recover_of}
 
 -- none of the refusals, and the stores
-pub record Carries (t : List ℕ) (lost : Lost) (scratch : ℕ) (g : Geometry) (ss : List Store) : Type 0 where
-  pub passed : sizes_of t ≡ Passed g
+pub record Carries (t : List ℕ) (lost : Option ℕ) (scratch : ℕ) (g : Geometry) (ss : List Store) : Type 0 where
+  pub passed : sizes_of t ≡ Ok g
   pub inside : lost_outside g lost ≡ false
   pub enough : scratch_words g ≤ scratch
   pub formed : survivors_formed g (survivors lost (view g t)) ≡ true
@@ -35,30 +31,30 @@ pub record Carries (t : List ℕ) (lost : Lost) (scratch : ℕ) (g : Geometry) (
   pub stores_are : ss ≡ recover_stores g lost (view g t)
 
 admitted_plan :
-    (a : Admission) {p : Plan} {g : Geometry} {x : ℕ} {ss : List Store} → plan_admitted a p ≡ carry g x ss → (a ≡ Admitted) × (p ≡ carry g x ss)
+    (a : Admission) {p : Plan} {g : Geometry} {x : ℕ} {ss : List Store} → plan_admitted a p ≡ carry g x ss → (a ≡ (Ok tt)) × (p ≡ carry g x ss)
 unfolding plan_admitted
-admitted_plan (Turned r) e = absurd (refused_not e)
-admitted_plan Admitted e = (refl, e)
+admitted_plan (Err r) e = absurd (refused_not e)
+admitted_plan (Ok _) e = (refl, e)
 
 -- turned down
 pub record Refuses (p : Plan) : Type 0 where
   pub number : Refusal
   pub plan : p ≡ refuse number
 
-passes : (a : Bool) (r : Refusal) (b : Admission) (p : Plan) → Refuses (plan_admitted b p) → Refuses (plan_admitted (cond a (Turned r) b) p)
+passes : (a : Bool) (r : Refusal) (b : Admission) (p : Plan) → Refuses (plan_admitted b p) → Refuses (plan_admitted (cond a (Err r) b) p)
 unfolding plan_admitted
 passes true r b p h = record { number = r; plan = refl }
 passes false r b p h = h
 
 -- none of the refusals holds
-pub record Admits (g : Geometry) (w : View) (lost : Lost) (scratch : ℕ) : Type 0 where
+pub record Admits (g : Geometry) (w : View) (lost : Option ℕ) (scratch : ℕ) : Type 0 where
   pub inside : lost_outside g lost ≡ false
   pub enough : scratch_words g ≤ scratch
   pub formed : survivors_formed g w ≡ true
   pub enough_nodes : too_few g w ≡ false
   pub fit : items_fit g w ≡ true
 
-pub admission_admits : (g : Geometry) (w : View) (lost : Lost) (scratch : ℕ) → recover_admission g w lost scratch ≡ Admitted → Admits g w lost scratch
+pub admission_admits : (g : Geometry) (w : View) (lost : Option ℕ) (scratch : ℕ) → recover_admission g w lost scratch ≡ (Ok tt) → Admits g w lost scratch
 unfolding recover_admission
 admission_admits g w lost scratch q =
     let (a, e₁) = passed (lost_outside g lost) NoNode _ q in
@@ -68,14 +64,14 @@ admission_admits g w lost scratch q =
     let (f, _) = passed (not (items_fit g w)) NoRecoveryCopy _ e₄ in
     record { inside = a; enough = ltb-false _ _ b; formed = not-false _ c; enough_nodes = d; fit = not-false _ f }
 
-module _ (t : List ℕ) (lost : Lost) (scratch : ℕ) where
+module _ (t : List ℕ) (lost : Option ℕ) (scratch : ℕ) where
   pub recover_carries : {g : Geometry} {x : ℕ} {ss : List Store} → recover_of t lost scratch ≡ carry g x ss → Carries t lost scratch g ss
   unfolding recover_of recover_checked
   recover_carries {g} {x} {ss} e = go (sizes_of t) refl e
     where
-      go : (c : Checked) → c ≡ sizes_of t → recover_checked t lost scratch c ≡ carry g x ss → Carries t lost scratch g ss
-      go (Failed r) p e = absurd (refused_not e)
-      go (Passed h) p e =
+      go : (c : Result Geometry Refusal) → c ≡ sizes_of t → recover_checked t lost scratch c ≡ carry g x ss → Carries t lost scratch g ss
+      go (Err r) p e = absurd (refused_not e)
+      go (Ok h) p e =
           let w = survivors lost (view h t) in
           let (q, e₀) = admitted_plan (recover_admission h w lost scratch) e in
           let f = admission_admits h w lost scratch q in
@@ -102,7 +98,7 @@ module _ (t : List ℕ) (lost : Lost) (scratch : ℕ) where
       enough = le-ltb scratch (scratch_words g) c.enough
 
   -- 14's condition: it is refused, with 14 or with what comes before it
-  pub few_refused : {g : Geometry} → sizes_of t ≡ Passed g → too_few g (survivors lost (view g t)) ≡ true → Refuses (recover_of t lost scratch)
+  pub few_refused : {g : Geometry} → sizes_of t ≡ Ok g → too_few g (survivors lost (view g t)) ≡ true → Refuses (recover_of t lost scratch)
   unfolding recover_of recover_checked recover_admission plan_admitted
   few_refused {g} p few =
       rw (p, few) (passes (lost_outside g lost) NoNode _ _ (passes (ltb scratch (scratch_words g)) ShortScratch _ _
@@ -110,7 +106,7 @@ module _ (t : List ℕ) (lost : Lost) (scratch : ℕ) where
 
   -- and with nothing before it, it is 14
   pub few_fourteen :
-      {g : Geometry} → sizes_of t ≡ Passed g → lost_outside g lost ≡ false → scratch_words g ≤ scratch
+      {g : Geometry} → sizes_of t ≡ Ok g → lost_outside g lost ≡ false → scratch_words g ≤ scratch
       → survivors_formed g (survivors lost (view g t)) ≡ true → too_few g (survivors lost (view g t)) ≡ true
       → recover_of t lost scratch ≡ refuse TooFewNodes
   unfolding recover_of recover_checked recover_admission plan_admitted

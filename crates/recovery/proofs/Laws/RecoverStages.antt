@@ -1,4 +1,5 @@
 -- Recover's stages one after the other, as code makes them on the table as it stands: the stores of the whole call, cut anywhere.
+use Rattle.std.specs.Prelude.{None, Option, Some}
 use Prim.Native.Nat.{ℕ, zero, suc, ◌*◌, ◌/◌, ◌%◌, ◌≤◌}
 use mathlib.Core.Path.{◌≡◌, refl, sym, ap, ◌∙◌, fun_ext}
 use mathlib.Core.Bool.{Bool, false}
@@ -16,8 +17,6 @@ use Rattle.table.specs.View.{View, view, put₁, updates}
 use Rattle.table.proofs.Laws.ViewAfter.{Within, view_after}
 use Rattle.table.proofs.Laws.Pass.{columns_within, grid_within}
 use Rattle.checkpoints.specs.Checkpoint.{live_changes, entries_before, entries_to}
-use Rattle.survivors.specs.declared.lost.Lost.{Lost}
-use Rattle.survivors.specs.declared.lost.Lost.TheVariants.{Nobody, Node}
 use Rattle.survivors.specs.Survivors.{lost_stores, survivors, lost_outside, closing_stores}
 use Rattle.survivors.specs.Direction.{forward_in}
 use Rattle.recovery.specs.Sides.{roll_change, roll_stores}
@@ -44,7 +43,7 @@ entered_number g w =
 -- ---- one stage, then the others
 
 followed_stored :
-    {g : Geometry} {l l₁ l₂ : ℕ} {t t₁ t₂ : List ℕ} (lost : Lost) (f h : View → List Store) → words_of g ≤ length t
+    {g : Geometry} {l l₁ l₂ : ℕ} {t t₁ t₂ : List ℕ} (lost : Option ℕ) (f h : View → List Store) → words_of g ≤ length t
     → All (Entered g) (f (survivors lost (view g t))) → Stored g l (f (survivors lost (view g t))) t t₁ l₁
     → Stored g l₁ (h (survivors lost (view g t₁))) t₁ t₂ l₂ → Stored g l (followed f h (survivors lost (view g t))) t t₂ l₂
 unfolding followed
@@ -58,7 +57,7 @@ unfolding roll_stores
 roll_stored g w e s = rw (← e) s
 
 pub survivors_stored :
-    (g : Geometry) (lost : Lost) {forward : Bool} {l l₁ l₂ l₃ l₄ : ℕ} {t t₁ t₂ t₃ t₄ : List ℕ} → words_of g ≤ length t
+    (g : Geometry) (lost : Option ℕ) {forward : Bool} {l l₁ l₂ l₃ l₄ : ℕ} {t t₁ t₂ t₃ t₄ : List ℕ} → words_of g ≤ length t
     → forward ≡ forward_in g (survivors lost (view g t))
     → Stored g l (entries_to g (survivors lost (view g t)) (roll_change forward)) t t₁ l₁
     → Stored g l₁ (number_stores g (survivors lost (view g t₁))) t₁ t₂ l₂
@@ -75,16 +74,16 @@ survivors_stored g lost {t = t} {t₁} {t₂} long way a b c d =
 
 -- ---- the lost mark first
 
-survivors_twice : (lost : Lost) (v : View) → survivors lost (survivors lost v) ≡ survivors lost v
-survivors_twice Nobody v = refl
-survivors_twice (Node m) v = λ i. record { mark = fun_ext again i; entry = v.entry }
+survivors_twice : (lost : Option ℕ) (v : View) → survivors lost (survivors lost v) ≡ survivors lost v
+survivors_twice None v = refl
+survivors_twice (Some m) v = λ i. record { mark = fun_ext again i; entry = v.entry }
   where
     again : (n : ℕ) → put₁ (put₁ v.mark m 0) m 0 n ≡ put₁ v.mark m 0 n
     again n = by_cases (eqb n m) (λ e. rw e refl) (λ e. rw e refl)
 
 -- stored or not, the survivors are the same
 pub survivors_same :
-    {g : Geometry} (lost : Lost) (l : ℕ) {l₁ : ℕ} {t t₁ : List ℕ} → words_of g ≤ length t → All (Within g) (lost_stores lost)
+    {g : Geometry} (lost : Option ℕ) (l : ℕ) {l₁ : ℕ} {t t₁ : List ℕ} → words_of g ≤ length t → All (Within g) (lost_stores lost)
     → Stored g l (lost_stores lost) t t₁ l₁ → survivors lost (view g t₁) ≡ survivors lost (view g t)
 survivors_same {g} lost zero {t = t} long within s = ap (λ (u : List ℕ). survivors lost (view g u)) (s.table ∙ after_zero g (lost_stores lost) t)
 survivors_same {g} lost (suc l) {t = t} long within s =
@@ -92,16 +91,16 @@ survivors_same {g} lost (suc l) {t = t} long within s =
     ∙ ap (survivors lost) (view_after g (suc l) t long within ∙ ap (λ (ss : List Store). updates ss (view g t)) (take_all (suc l) (lost_stores lost) (few lost)))
     ∙ survivors_twice lost (view g t)
   where
-    few : (lost : Lost) → length (lost_stores lost) ≤ suc l
-    few Nobody = omega arith
-    few (Node m) = omega arith
+    few : (lost : Option ℕ) → length (lost_stores lost) ≤ suc l
+    few None = omega arith
+    few (Some m) = omega arith
 
-pub lost_stores_within : (g : Geometry) (lost : Lost) → lost_outside g lost ≡ false → All (Within g) (lost_stores lost)
-lost_stores_within g Nobody h = none
-lost_stores_within g (Node m) h = more {s = mark_store m 0} (lost_within g (Node m) h refl) none
+pub lost_stores_within : (g : Geometry) (lost : Option ℕ) → lost_outside g lost ≡ false → All (Within g) (lost_stores lost)
+lost_stores_within g None h = none
+lost_stores_within g (Some m) h = more {s = mark_store m 0} (lost_within g (Some m) h refl) none
 
 pub recover_stored :
-    (g : Geometry) (lost : Lost) {l l₁ l₂ : ℕ} {t t₁ t₂ : List ℕ} → words_of g ≤ length t → lost_outside g lost ≡ false
+    (g : Geometry) (lost : Option ℕ) {l l₁ l₂ : ℕ} {t t₁ t₂ : List ℕ} → words_of g ≤ length t → lost_outside g lost ≡ false
     → Stored g l (lost_stores lost) t t₁ l₁ → Stored g l₁ (survivor_stores g (survivors lost (view g t₁))) t₁ t₂ l₂
     → Stored g l (recover_stores g lost (view g t)) t t₂ l₂
 unfolding recover_stores

@@ -1,5 +1,6 @@
 -- THE THEOREM of Recover, where the survivors are ready and there are enough: it is accepted; however it is cut the survivors stay ready, so it can be
 -- made again; and a whole one brings back the save, of the number of the point.
+use Rattle.std.specs.Prelude.{Ok, Option}
 use Prim.Native.Nat.{ℕ, ◌≤◌}
 use mathlib.Core.Path.{◌≡◌, refl, ap, ◌∙◌}
 use mathlib.Core.Bool.{false}
@@ -12,13 +13,11 @@ use Rattle.table.specs.Stores.{after}
 use Rattle.table.specs.View.{View, view, live}
 use Rattle.table.proofs.Laws.Via.{Via, via_cut, via_whole}
 use Rattle.table.specs.Answers.{carry}
-use Rattle.entries.specs.declared.check.Checked.TheVariants.{Passed}
 use Rattle.entries.specs.Check.{sizes_of}
 use Rattle.entries.proofs.Laws.CheckFacts.{Shape, sizes_facts}
 use Rattle.homes.proofs.Laws.SoundKept.{shape_after}
 use Rattle.homes.proofs.Laws.Serves.{Serves, serves_by}
 use Rattle.homes.specs.Admission.{plan_admitted}
-use Rattle.survivors.specs.declared.lost.Lost.{Lost}
 use Rattle.survivors.specs.Survivors.{survivors, survivor_count, lost_outside, too_few_with, too_few}
 use Rattle.recovery.specs.Recover.{scratch_words, recover_stores, recover_admission, recover_checked, recover_of}
 use Rattle.recovery.proofs.Laws.Ready.{Ready, Going}
@@ -34,7 +33,7 @@ pub going_few : (g : Geometry) (saved : ℕ → ℕ) (number : ℕ) (w u : View)
 unfolding too_few survivor_count
 going_few g saved number w u k = ap (too_few_with g) (count_ext g.nodes (live u) (live w) (λ n l. k.same n))
 
-module _ (t : List ℕ) (g : Geometry) (saved : ℕ → ℕ) (number : ℕ) (lost : Lost) (passed : sizes_of t ≡ Passed g) (inside : lost_outside g lost ≡ false)
+module _ (t : List ℕ) (g : Geometry) (saved : ℕ → ℕ) (number : ℕ) (lost : Option ℕ) (passed : sizes_of t ≡ Ok g) (inside : lost_outside g lost ≡ false)
     (ready : Ready g saved number (survivors lost (view g t))) (room : too_few g (survivors lost (view g t)) ≡ false) where
   abbrev w : View
   w = survivors lost (view g t)

@@ -1,4 +1,5 @@
 -- The laws of `specs/code/RollingCode.antt`.
+use Rattle.std.specs.Prelude.{Option}
 use Prim.Native.Nat.{ℕ, zero, suc, ◌+◌, ◌*◌, ◌%◌, ◌≤◌, ◌<◌}
 use mathlib.Core.Path.{◌≡◌, refl, sym, ap, ◌∙◌}
 use mathlib.Core.Bool.{Bool, true, false, not, ◌&&◌}
@@ -6,25 +7,27 @@ use mathlib.Core.List.{List, [], ◌∷◌, ◌++◌, map, append_assoc}
 use native.Mathlib.Omega.{arith}
 use lib.Dec.{eqb}
 use lib.ListN.{length, get_or}
-use borrow.Author.Tests.{eq-eqb, ne_eqb}
+use borrow.Author.Tests.{eq-eqb}
 use Rattle.table.specs.declared.geometry.Geometry.{Geometry}
 use Rattle.table.specs.Geometry.{words_of, entry_words, Placed}
 use Rattle.table.specs.Words.{invalid, shared_ck, current_of, kept_of}
-use Rattle.table.specs.declared.changes.Event.TheVariants.{RollBack, RollForward}
 use Rattle.table.specs.Changes.{change_of}
-use Rattle.table.specs.Stores.{Store, Change, Stored, StoredIn, entry_store, state_to, value_to, runs}
+use Rattle.table.specs.Stores.{Store, Change, Stored, entry_store, state_to, value_to, runs}
+use Rattle.table.specs.code.Stores.{StoredIn}
+use Rattle.table.specs.declared.stores.Stores.{Stores}
+use Rattle.table.specs.Made.{Made, shown}
+use Rattle.table.proofs.Laws.Made.{made_as, made_none}
 use Rattle.table.proofs.Laws.Stores.{runs_ext, stored_none, stored_three, stored_as, loop-starts, loop-turns}
 use Rattle.table.specs.View.{Entry, View, view, current, kept, pass}
 use Rattle.table.proofs.Laws.PassTurns.{Local, items_turn, nodes_turn}
 use Rattle.entries.proofs.Laws.Row.{row_read, row_state_lem}
 use Rattle.checkpoints.specs.Checkpoint.{live_changes, entries_before}
 use Rattle.checkpoints.proofs.Laws.Checkpoint.{changes_local, changes_live, changes_dead}
-use Rattle.survivors.specs.declared.lost.Lost.{Lost}
 use Rattle.survivors.specs.Survivors.{survivors}
 use Rattle.recovery.specs.Sides.{side_event, bring_back, settled, roll_change}
 use Rattle.survivors.proofs.Laws.SurvivorsCode.{survivor_entry, survivor_marks}
 use Rattle.recovery.specs.code.Rows.{state_in, reached}
-use Rattle.recovery.proofs.Laws.Rows.{reached_start, reached_next, listed_turn, listed_end, row_room}
+use Rattle.recovery.proofs.Laws.Rows.{reached_start, reached_next, listed_turn, listed_end}
 use Rattle.recovery.specs.code.RollingCode.{cleared, RollListed, RolledNode, Rolled}
 
 -- ---- one entry
@@ -48,18 +51,8 @@ module _ (e : Entry) {w c k : ℕ} (z : w ≡ e.state) (p : c ≡ current_of w) 
     unfolding roll_change
     roll_settles h b = rw (← z, ← p, ← q, h, b) refl
 
--- the event of a side
-pub rolled_on : (c : ℕ) {forward : Bool} {r : ℕ} → forward ≡ true → r ≡ change_of c RollForward → r ≡ change_of c (side_event forward)
-rolled_on c e q = rw e q
-
-pub rolled_back : (c : ℕ) {forward : Bool} {r : ℕ} → forward ≡ false → r ≡ change_of c RollBack → r ≡ change_of c (side_event forward)
-rolled_back c e q = rw e q
-
 pub clear_stays : (c k : ℕ) → c ≡ invalid → cleared c k ≡ []
 clear_stays c k h = rw (eq-eqb c invalid h) refl
-
-pub clear_stores : (c k : ℕ) → (c ≡ invalid → ⊥) → cleared c k ≡ state_to invalid k ∷ []
-clear_stores c k h = rw (ne_eqb c invalid h) refl
 
 -- "state with current Invalid if it was not; current value; state": the premises are in the order of the code's stores
 pub back_all :
@@ -79,13 +72,13 @@ back_all n b e {w} {c} {k} {x} {code} z p q h d first second third =
 -- ---- the survivors' entries
 
 -- changes of a survivor's entry look at its mark and at the entry alone
-survivor_local : (change : Entry → List Change) (lost : Lost) → Local (λ v. live_changes change (survivors lost v))
+survivor_local : (change : Entry → List Change) (lost : Option ℕ) → Local (λ v. live_changes change (survivors lost v))
 survivor_local change lost v w n b m e =
     changes_local change (survivors lost v) (survivors lost w) n b (survivor_marks lost v w n m)
     (rw (survivor_entry lost w, survivor_entry lost v) e)
 
 pub survivor_changes :
-    (change : Entry → List Change) (lost : Lost) (v : View) (n b : ℕ) {mark : ℕ} → mark ≡ (survivors lost v).mark n → (mark ≡ 0 → ⊥)
+    (change : Entry → List Change) (lost : Option ℕ) (v : View) (n b : ℕ) {mark : ℕ} → mark ≡ (survivors lost v).mark n → (mark ≡ 0 → ⊥)
     → live_changes change (survivors lost v) n b ≡ change (v.entry n b)
 survivor_changes change lost v n b h d =
     changes_live change (survivors lost v) n b h d ∙ ap (λ f. change (f n b)) (survivor_entry lost v)
@@ -118,17 +111,14 @@ module _ (g : Geometry) (n : ℕ) (forward : Bool) {left left₁ : ℕ} {t t₁ 
   passed_blank j z s =
       loop-turns _ j s (stored_as (ap (map (entry_store n j)) (roll_blank forward ((view g t).entry n j) z)) (stored_none g left₁ t₁))
 
-  module _ {l : List ℕ} {count : ℕ} (o : RollListed g n t l count) (k : ℕ) (s : Stored g left (rolled_to g n forward (view g t) (reached l k)) t t₁ left₁) where
+  module _ {l : List ℕ} (o : RollListed g n t l) (k : ℕ) (s : Stored g left (rolled_to g n forward (view g t) (reached l k)) t t₁ left₁) where
     -- the turn's state word, at its place in the node's row
-    module _ {start : ℕ} (a : Placed g n 0 start) (h : k < count) where
-      pub listed_room : start + entry_words * get_or l k 0 < length t₁
-      listed_room = omega (arith, row_room g t₁ n o.there a (omega (arith, o.long, s.size)), o.listed.below k h)
-
+    module _ {start : ℕ} (a : Placed g n 0 start) (h : k < length l) where
       pub listed_state : get_or t₁ (start + entry_words * get_or l k 0) 0 ≡ ((view g t₁).entry n (get_or l k 0)).state
       listed_state = row_read t₁ start (get_or l k 0) refl refl ∙ row_state_lem g t₁ n o.there a (get_or l k 0) (o.listed.below k h)
 
     pub listed_next :
-        k < count → {left₂ : ℕ} {t₂ : List ℕ}
+        k < length l → {left₂ : ℕ} {t₂ : List ℕ}
         → StoredIn g left₁ n (get_or l k 0) (roll_change forward ((view g t₁).entry n (get_or l k 0))) t₁ t₂ left₂
         → Stored g left (rolled_to g n forward (view g t) (reached l (k + 1))) t t₂ left₂
     unfolding rolled_to
@@ -138,7 +128,7 @@ module _ (g : Geometry) (n : ℕ) (forward : Bool) {left left₁ : ℕ} {t t₁ 
         (listed_turn (λ i. Stored g left (rolled_to g n forward (view g t) i) t t₁ left₁) (state_in (view g t) n) passed_blank o.listed k h s) r)
 
     pub listed_all :
-        k ≤ count → count ≤ k
+        k ≤ length l → length l ≤ k
         → Stored g left (pass (λ d. n) (λ d. d) (λ d. roll_change forward ((view g t).entry n d)) g.items) t t₁ left₁
     unfolding rolled_to
     listed_all h q =
@@ -149,28 +139,26 @@ unfolding runs
 runs_empty zero f h = refl
 runs_empty (suc n) f h = rw (runs_empty n f (λ i l. h i (omega arith)), h n (omega arith)) refl
 
-module _ (g : Geometry) (lost : Lost) (n : ℕ) (forward : Bool) {left mark : ℕ} {t l : List ℕ} (h : mark ≡ (survivors lost (view g t)).mark n) where
-  pub node_passed_over : mark ≡ 0 → RolledNode g lost n forward left t t l l left
+module _ (lost : Option ℕ) (n : ℕ) (forward : Bool) {s : Stores} {mark : ℕ} {l : List ℕ} (h : mark ≡ (survivors lost (shown s)).mark n) where
+  pub node_passed_over : mark ≡ 0 → RolledNode lost n forward s s l l
   node_passed_over d = record {
-    stores = stored_as
-        (runs_empty g.items _ (λ b _. ap (map (entry_store n b)) (changes_dead (roll_change forward) (survivors lost (view g t)) n b h d)))
-        (stored_none g left t);
+    made = made_as
+        (runs_empty s.g.items _ (λ b _. ap (map (entry_store n b)) (changes_dead (roll_change forward) (survivors lost (shown s)) n b h d)))
+        (made_none s);
     size = refl;
   }
 
   pub node_rolled :
-      (mark ≡ 0 → ⊥) → {left' : ℕ} {t' l' : List ℕ}
-      → length l' ≡ length l
-      → Stored g left (pass (λ d. n) (λ d. d) (λ d. roll_change forward ((view g t).entry n d)) g.items) t t' left'
-      → RolledNode g lost n forward left t t' l l' left'
-  node_rolled d q s = record {
-    stores = stored_as (runs_ext g.items _ _ (λ b _. ap (map (entry_store n b)) (survivor_changes (roll_change forward) lost (view g t) n b h d))) s;
+      (mark ≡ 0 → ⊥) → {s' : Stores} {l' : List ℕ} → length l' ≡ length l
+      → Made s (pass (λ d. n) (λ d. d) (λ d. roll_change forward ((shown s).entry n d)) s.g.items) s' → RolledNode lost n forward s s' l l'
+  node_rolled d q m = record {
+    made = made_as (runs_ext s.g.items _ _ (λ b _. ap (map (entry_store n b)) (survivor_changes (roll_change forward) lost (shown s) n b h d))) m;
     size = q;
   }
 
 -- ---- the pass over them
 
-module _ (change : Entry → List Change) (lost : Lost) (g : Geometry) {left left₁ : ℕ} {t t₁ : List ℕ} (long : words_of g ≤ length t) where
+module _ (change : Entry → List Change) (lost : Option ℕ) (g : Geometry) {left left₁ : ℕ} {t t₁ : List ℕ} (long : words_of g ≤ length t) where
   -- node n
   pub survivor_node :
       (n : ℕ) → n < g.nodes → Stored g left (entries_before g (survivors lost (view g t)) change n) t t₁ left₁ → {left₂ : ℕ} {t₂ : List ℕ}
@@ -180,7 +168,6 @@ module _ (change : Entry → List Change) (lost : Lost) (g : Geometry) {left lef
   survivor_node n l s r = nodes_turn (λ v. live_changes change (survivors lost v)) (survivor_local change lost) g long n l s r
 
 pub rolled_all :
-    (g : Geometry) (lost : Lost) (forward : Bool) (n : ℕ) {left left₁ : ℕ} {t t₁ l l₁ : List ℕ} → n ≤ g.nodes → g.nodes ≤ n
-    → length l₁ ≡ length l → Stored g left (entries_before g (survivors lost (view g t)) (roll_change forward) n) t t₁ left₁
-    → Rolled g lost forward left t t₁ l l₁ left₁
-rolled_all g lost forward n h k q s = let e : n ≡ g.nodes = omega arith in record { stores = rw e at s; size = q }
+    (lost : Option ℕ) (forward : Bool) (n : ℕ) {s s' : Stores} {l l' : List ℕ} → n ≤ s.g.nodes → s.g.nodes ≤ n → length l' ≡ length l
+    → Made s (entries_before s.g (survivors lost (shown s)) (roll_change forward) n) s' → Rolled lost forward s s' l l'
+rolled_all lost forward n {s} h k q m = let e : n ≡ s.g.nodes = omega arith in record { made = rw e at m; size = q }

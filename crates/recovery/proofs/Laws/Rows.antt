@@ -5,23 +5,22 @@ use mathlib.Core.Bool.{not}
 use mathlib.Core.List.{List}
 use native.Mathlib.Omega.{arith}
 use native.Mathlib.Decide.{ℕ_discrete}
-use native.Mathlib.Nat.{suc-mul, mul-le-mul_right}
 use native.Mathlib.Numerals.{add-one}
 use mir.Val.{bool_byte}
 use lib.Dec.{eqb}
-use lib.ListN.{length, get_or, set, length-set}
+use lib.ListN.{length, get_or, set, take, length-set}
+use Rattle.std.proofs.lemmas.List.{get_or-take, length-take-le}
 use lib.Seq.{get_or-set_same, get_or-set_other}
 use Rattle.counting.proofs.Laws.Tests.{by_cases}
 use Rattle.counting.proofs.Laws.Counting.{bit_counted}
 use borrow.Author.Tests.{eqb-true}
 use Rattle.table.specs.declared.geometry.Geometry.{Geometry}
-use Rattle.table.specs.Geometry.{words_of, entry_at, Placed}
-use Rattle.table.proofs.Laws.Geometry.{entry_within}
+use Rattle.table.specs.Geometry.{entry_at, Placed}
 use Rattle.table.specs.View.{view, entry_in}
 use Rattle.table.proofs.Laws.View.{entry_read}
 use Rattle.entries.specs.code.Row.{row_state}
 use Rattle.entries.proofs.Laws.Row.{row_state_lem, row_read}
-use Rattle.recovery.specs.code.Rows.{HasEntry, state_in, reached, Listed, Listing, ListedMore, Rowed}
+use Rattle.recovery.specs.code.Rows.{HasEntry, state_in, reached, Listed, Listing, ListedMore, ListedAll, Rowed}
 
 -- ---- the list grows
 
@@ -175,35 +174,43 @@ module _ (h : ℕ → ℕ → ℕ) (i : ℕ) {s s' : List ℕ} (r : Rowed h i s 
 
 -- ---- the row of a node
 
-pub listed_ext : {f h : ℕ → ℕ} {m : ℕ} {l l' : List ℕ} {r : ℕ} → ((j : ℕ) → j < m → f j ≡ h j) → Listing f m l l' r → Listing h m l l' r
-listed_ext same o =
-    let p = o.listed in
-    record {
-      listed = record {
-        few = p.few;
-        room = p.room;
-        all = p.all;
-        ascends = p.ascends;
-        below = p.below;
-        gap = λ k q j a b. sym (same j (omega (arith, p.below k q))) ∙ p.gap k q j a b;
-        rest = λ j a b. sym (same j b) ∙ p.rest j a b;
-      };
-      size = o.size;
-    }
+listed_ext : {f h : ℕ → ℕ} {m : ℕ} {l : List ℕ} {r : ℕ} → ((j : ℕ) → j < m → f j ≡ h j) → Listed f m l r → Listed h m l r
+listed_ext same p = record {
+  few = p.few;
+  room = p.room;
+  all = p.all;
+  ascends = p.ascends;
+  below = p.below;
+  gap = λ k q j a b. sym (same j (omega (arith, p.below k q))) ∙ p.gap k q j a b;
+  rest = λ j a b. sym (same j b) ∙ p.rest j a b;
+}
+
+-- the first r of the list are a list of just those items
+reached_take : (l : List ℕ) (r k : ℕ) → k ≤ r → reached (take r l) k ≡ reached l k
+unfolding reached
+reached_take l r zero h = refl
+reached_take l r (suc k) h = ap (λ y. y + 1) (get_or-take r l k 0 (omega arith))
+
+pub listed_part : {f : ℕ → ℕ} {m : ℕ} {l : List ℕ} {r : ℕ} → Listed f m l r → ListedAll f m (take r l)
+listed_part {f} {m} {l} {r} o =
+    let here : (k : ℕ) → k < r → get_or (take r l) k 0 ≡ get_or l k 0 = λ k q. get_or-take r l k 0 q in
+    rw (length-take-le r l o.room) (record {
+      few = o.few;
+      room = rw (length-take-le r l o.room) (omega arith);
+      all = rw (reached_take l r r (omega arith)) o.all;
+      ascends = λ k q. rw (here k q, reached_take l r k (omega arith)) (o.ascends k q);
+      below = λ k q. rw (here k q) (o.below k q);
+      gap = λ k q. rw (here k q, reached_take l r k (omega arith)) (o.gap k q);
+      rest = rw (reached_take l r r (omega arith)) o.rest;
+    })
 
 module _ (g : Geometry) (t : List ℕ) (n : ℕ) (h : n < g.nodes) {start : ℕ} (a : Placed g n 0 start) where
-  pub row_room : words_of g ≤ length t → start + 3 * g.items ≤ length t
-  row_room long = let p = rw suc-mul at (mul-le-mul_right g.items h) in omega (arith, a.at)
-
-  pub row_listed : {l l' : List ℕ} {r : ℕ} → Listing (row_state t start) g.items l l' r → Listing (state_in (view g t) n) g.items l l' r
+  pub row_listed : {l : List ℕ} {r : ℕ} → Listed (row_state t start) g.items l r → Listed (state_in (view g t) n) g.items l r
   row_listed = listed_ext (row_state_lem g t n h a)
 
 -- ---- an entry read at its place
 
 module _ (g : Geometry) (t : List ℕ) (n b : ℕ) (h : HasEntry g t n b) {at : ℕ} (a : at ≡ entry_at g n b) where
-  pub entry_room : at + 2 < length t
-  entry_room = omega (arith, a, entry_within g h.0 h.1.0, h.1.1)
-
   read : (view g t).entry n b ≡ entry_in t (entry_at g n b)
   read = entry_read g t n b h.0 h.1.0
 

@@ -1,4 +1,5 @@
 -- Laws of `specs/code/Rows.antt`: the word forms and the frames of a survivor.
+use Rattle.std.specs.Prelude.{Option}
 use Prim.Native.Nat.{ℕ, ◌+◌, ◌≤◌, ◌<◌}
 use mathlib.Core.Path.{◌≡◌, refl, sym, ap, ap₂, ◌∙◌}
 use mathlib.Core.Bool.{Bool, true, ◌&&◌, and-true}
@@ -14,7 +15,6 @@ use Rattle.table.specs.View.{View}
 use Rattle.entries.specs.Frames.{set_frames, frames_in, used, frames_fit}
 use Rattle.entries.proofs.Laws.Frames.{frames_here}
 use Rattle.entries.specs.Sound.{states_form, node_sound}
-use Rattle.survivors.specs.declared.lost.Lost.{Lost}
 use Rattle.survivors.specs.Survivors.{survivors}
 use Rattle.survivors.proofs.Laws.SurvivorsCode.{survivor_live}
 use Rattle.recovery.specs.code.Rows.{state_in, Listed, reached, RowTo}
@@ -60,7 +60,7 @@ row_used g v n r = r.in_use ∙ sum_ext g.items _ _ (λ b _. frames_here g v n 0
 -- ---- a survivor
 
 pub row_sound :
-    (g : Geometry) (lost : Lost) (v : View) (n : ℕ) {mark : ℕ} → mark ≡ (survivors lost v).mark n → (mark ≡ 0 → ⊥)
+    (g : Geometry) (lost : Option ℕ) (v : View) (n : ℕ) {mark : ℕ} → mark ≡ (survivors lost v).mark n → (mark ≡ 0 → ⊥)
     → {forms : Bool} {frames f : ℕ} → RowTo v n g.items forms frames → f ≡ set_frames g → (forms && leb frames f) ≡ node_sound g (survivors lost v) n
 unfolding states_form frames_fit every
 row_sound g lost v n h d r e = survivor_live g lost v n h d (r.formed ∙ forms_in) (ap₂ leb (row_used g v n r) e ∙ one_set)

@@ -1,5 +1,6 @@
 -- "A dead node's words, mark apart, are never read", by Recover, nor a lost node's, mark included: its plan does not rest
 -- on them. Each stage finds views that agree as the first one does, for only the last one stores marks.
+use Rattle.std.specs.Prelude.{Err, Ok, Option, Result}
 use Prim.Native.Nat.{ℕ, zero, suc, ◌-◌, ◌*◌, ◌/◌, ◌%◌, ◌≤◌}
 use mathlib.Core.Path.{◌≡◌, refl, ap, ap₂, ◌∙◌}
 use mathlib.Core.Bool.{Bool, not, ◌&&◌}
@@ -13,22 +14,19 @@ use Rattle.counting.proofs.Laws.Cyclic.{first_after_ext}
 use Rattle.counting.proofs.Laws.Tests.{both, and_same, by_cases}
 use Rattle.counting.proofs.Laws.Values.{values_ext}
 use Rattle.table.specs.declared.geometry.Geometry.{Geometry}
+use Rattle.table.specs.declared.answers.Refusal.{Refusal}
 use Rattle.table.specs.Words.{invalid}
 use Rattle.table.specs.Stores.{Store, size_store, mark_store, entry_store}
 use Rattle.table.proofs.Laws.Stores.{All, none, more, runs_ext}
 use Rattle.table.specs.View.{Entry, View, view, live, current, update, updates, mark_to, marks_to}
 use Rattle.table.specs.Copies.{copy_number, copy_value}
 use Rattle.table.specs.Answers.{Plan, carry}
-use Rattle.entries.specs.declared.check.Checked.{Checked}
-use Rattle.entries.specs.declared.check.Checked.TheVariants.{Passed, Failed}
 use Rattle.entries.specs.Check.{sizes_of}
 use Rattle.entries.specs.Tally.{has, copy}
 use Rattle.entries.specs.Sound.{marks_form}
 use Rattle.entries.proofs.Laws.Unread.{over, Agrees, same_test, same_first, same_found, same_free, same_nodes, updates_over, updates_agree}
-use Rattle.homes.specs.declared.admission.Admission.{Admission}
-use Rattle.homes.specs.Admission.{plan_admitted}
+use Rattle.homes.specs.Admission.{Admission, plan_admitted}
 use Rattle.checkpoints.proofs.Laws.Unread.{same_entries_to}
-use Rattle.survivors.specs.declared.lost.Lost.{Lost}
 use Rattle.survivors.specs.Survivors.{lost_stores, survivors, survivor_count, too_few, largest_number, closing_stores}
 use Rattle.survivors.specs.Direction.{forward_in}
 use Rattle.recovery.specs.Sides.{copy_on, has_copy, copies_on, item_fits, items_fit, roll_change, roll_stores}
@@ -59,7 +57,7 @@ module _ (g : Geometry) (w : View) (e : ℕ → ℕ → Entry) (s : Agrees g w e
   same_formed = ap (λ (x : Bool). marks_form w g.nodes && x) (same_nodes g w e s)
 
   same_admission :
-      (lost : Lost) (scratch : ℕ) → recover_admission g (over w e) lost scratch ≡ recover_admission g w lost scratch
+      (lost : Option ℕ) (scratch : ℕ) → recover_admission g (over w e) lost scratch ≡ recover_admission g w lost scratch
   unfolding recover_admission too_few survivor_count
   same_admission lost scratch = rw (same_formed, same_fit) refl
 
@@ -170,15 +168,15 @@ module _ (g : Geometry) where
 -- ---- the plan
 
 -- tables of the same sizes, whose survivors' views differ in nothing but the entries of nodes that do not survive
-pub record AlikeBut (lost : Lost) (t t' : List ℕ) : Type 0 where
+pub record AlikeBut (lost : Option ℕ) (t t' : List ℕ) : Type 0 where
   pub sizes : sizes_of t' ≡ sizes_of t
   pub views :
-      (g : Geometry) → sizes_of t ≡ Passed g
+      (g : Geometry) → sizes_of t ≡ Ok g
       → survivors lost (view g t') ≡ over (survivors lost (view g t)) (view g t').entry
-  pub entries : (g : Geometry) → sizes_of t ≡ Passed g → Agrees g (survivors lost (view g t)) (view g t').entry
+  pub entries : (g : Geometry) → sizes_of t ≡ Ok g → Agrees g (survivors lost (view g t)) (view g t').entry
 
 pub recover_alike :
-    (lost : Lost) (scratch : ℕ) {t t' : List ℕ} → AlikeBut lost t t'
+    (lost : Option ℕ) (scratch : ℕ) {t t' : List ℕ} → AlikeBut lost t t'
     → recover_of t' lost scratch ≡ recover_of t lost scratch
 unfolding recover_of recover_checked recover_stores
 recover_alike lost scratch {t} {t'} a = ap (recover_checked t' lost scratch) a.sizes ∙ go (sizes_of t) refl
@@ -186,9 +184,9 @@ recover_alike lost scratch {t} {t'} a = ap (recover_checked t' lost scratch) a.s
     planned : Geometry → View → Plan
     planned g w = plan_admitted (recover_admission g w lost scratch) (carry g 0 (lost_stores lost ++ survivor_stores g w))
 
-    go : (c : Checked) → sizes_of t ≡ c → recover_checked t' lost scratch c ≡ recover_checked t lost scratch c
-    go (Failed x) h = refl
-    go (Passed g) h =
+    go : (c : Result Geometry Refusal) → sizes_of t ≡ c → recover_checked t' lost scratch c ≡ recover_checked t lost scratch c
+    go (Err x) h = refl
+    go (Ok g) h =
         let w = survivors lost (view g t) in
         let e = (view g t').entry in
         ap (planned g) (a.views g h)

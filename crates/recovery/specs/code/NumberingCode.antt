@@ -1,5 +1,5 @@
 -- What the functions that number the copies promise.
-use Rattle.std.specs.Prelude.{ℕ, ◌+◌, ◌-◌, ◌≤◌, ◌<◌, ◌≡◌, true, cond, List, [], eqb, length}
+use Rattle.std.specs.Prelude.{ℕ, ◌+◌, ◌-◌, ◌≤◌, ◌<◌, ◌≡◌, true, cond, List, [], eqb, length, Option}
 use Rattle.counting.specs.Counting.{one}
 use Rattle.table.specs.declared.geometry.Geometry.{Geometry}
 use Rattle.table.specs.Geometry.{words_of}
@@ -7,7 +7,6 @@ use Rattle.table.specs.Words.{invalid, shared_ck1, shared_ck2}
 use Rattle.table.specs.Changes.{checkpoint_of}
 use Rattle.table.specs.Stores.{Change}
 use Rattle.table.specs.View.{Entry, View, view, live, current, kept}
-use Rattle.survivors.specs.declared.lost.Lost.{Lost}
 use Rattle.recovery.specs.declared.numbering.Holders.{Holders}
 use Rattle.survivors.specs.Survivors.{survivors}
 use Rattle.recovery.specs.Sides.{settled}
@@ -21,9 +20,6 @@ unfoldable pub survivor_code : View → ℕ → ℕ → ℕ
 survivor_code w b n = cond (live w n) (current (w.entry n b)) invalid
 
 -- ---- the holders of an item
-
-abbrev pub no_holders : Holders
-no_holders = record { first = 0; second = 0 }
 
 abbrev pub of_number : Holders → ℕ → ℕ
 of_number h number = cond (eqb number 1) h.first h.second
@@ -51,7 +47,7 @@ number_by c lower all e =
 -- ---- one item: a turn finds its entry as it was at the item's start, whatever the limit
 
 -- what an item's turn needs: by its tally there may be nothing to do, while anything is left of the limit
-pub record Numberable (g : Geometry) (lost : Lost) (left : ℕ) (t : List ℕ) (b tally : ℕ) : Type 0 where
+pub record Numberable (g : Geometry) (lost : Option ℕ) (left : ℕ) (t : List ℕ) (b tally : ℕ) : Type 0 where
   pub there : b < g.items
   pub long : words_of g ≤ length t
   pub nothing : (left ≡ 0 → ⊥) → plain tally ≡ true → (n : ℕ) → n < g.nodes → number_change g (survivors lost (view g t)) n b ≡ []
@@ -61,7 +57,7 @@ abbrev pub Unkept : Geometry → View → Type 0
 Unkept g w = (n b : ℕ) → n < g.nodes → b < g.items → live w n ≡ true → kept (w.entry n b) ≡ 0
 
 -- what all of them need
-pub record Numbering (g : Geometry) (lost : Lost) (left : ℕ) (t s : List ℕ) : Type 0 where
+pub record Numbering (g : Geometry) (lost : Option ℕ) (left : ℕ) (t s : List ℕ) : Type 0 where
   pub long : words_of g ≤ length t
   pub room : g.items ≤ length s
   pub tallied : (left ≡ 0 → ⊥) → Tallied g (survivors lost (view g t)) s

@@ -1,10 +1,10 @@
 -- Numbering and partners on the rolled survivors, as the code goes: by what the census told of them before they rolled.
-use Rattle.std.specs.Prelude.{ℕ, ◌≤◌, ◌<◌, ◌≡◌, Bool, true, List, [], length, get_or}
+use Rattle.std.specs.Prelude.{ℕ, ◌≤◌, ◌<◌, ◌≡◌, Bool, true, List, [], length, get_or, Option}
 use Rattle.counting.specs.Counting.{every, sum}
 use Rattle.table.specs.declared.geometry.Geometry.{Geometry}
-use Rattle.table.specs.Stores.{Stored}
-use Rattle.table.specs.View.{View, view, updates, live}
-use Rattle.survivors.specs.declared.lost.Lost.{Lost}
+use Rattle.table.specs.declared.stores.Stores.{Stores}
+use Rattle.table.specs.Made.{Made, shown}
+use Rattle.table.specs.View.{View, updates, live}
 use Rattle.survivors.specs.Survivors.{survivors}
 use Rattle.recovery.specs.Sides.{items_fit}
 use Rattle.survivors.specs.Direction.{forward_in}
@@ -17,22 +17,22 @@ use Rattle.recovery.specs.code.Census.{side_weight, held_on}
 
 -- ---- what the code needs
 
-pub record Pairable (g : Geometry) (lost : Lost) (left : ℕ) (plain : Bool) (t s tallies u : List ℕ) : Type 0 where
-  pub room : g.nodes ≤ length s
-  pub used_room : g.nodes ≤ length u
-  pub numbering : Numbering g lost left t tallies
+pub record Pairable (lost : Option ℕ) (plain : Bool) (a : Stores) (s tallies u : List ℕ) : Type 0 where
+  pub room : a.g.nodes ≤ length s
+  pub used_room : a.g.nodes ≤ length u
+  pub numbering : Numbering a.g lost a.left a.table.now tallies
   -- while anything is left of the limit: numbering leaves each item a pair or a single copy; where no item has two recovery copies of one number it has
   -- nothing to do, and the frames in use are those of the census
-  pub settled : (left ≡ 0 → ⊥) → Settled g (updates (number_stores g (survivors lost (view g t))) (survivors lost (view g t))) tallies
-  pub nothing : plain ≡ true → (left ≡ 0 → ⊥) → number_stores g (survivors lost (view g t)) ≡ []
-  pub agrees : plain ≡ true → (left ≡ 0 → ⊥) → AgreesTo g (survivors lost (view g t)) u g.nodes
+  pub settled :
+      (a.left ≡ 0 → ⊥) → Settled a.g (updates (number_stores a.g (survivors lost (shown a))) (survivors lost (shown a))) tallies
+  pub nothing : plain ≡ true → (a.left ≡ 0 → ⊥) → number_stores a.g (survivors lost (shown a)) ≡ []
+  pub agrees : plain ≡ true → (a.left ≡ 0 → ⊥) → AgreesTo a.g (survivors lost (shown a)) u a.g.nodes
 
 -- what it owes: the stores of both stages, and the scratch
-pub record Pairs (g : Geometry) (lost : Lost) (left : ℕ) (t t' s s' : List ℕ) (left' : ℕ) : Type 0 where
-  pub between : List ℕ
-  pub left_between : ℕ
-  pub numbered : Stored g left (number_stores g (survivors lost (view g t))) t between left_between
-  pub partnered : Turned g lost (partners_stores g) left_between between t' s s' left'
+pub record Pairs (lost : Option ℕ) (a a' : Stores) (s s' : List ℕ) : Type 0 where
+  pub between : Stores
+  pub numbered : Made a (number_stores a.g (survivors lost (shown a))) between
+  pub partnered : Turned lost (partners_stores between.g) between a' s s'
 
 -- ---- after the rolling
 

@@ -1,16 +1,17 @@
 -- The frames in use of each survivor, as the partner stage holds them in the first words of the scratch: they agree with the table while anything is
 -- left of the limit.
-use Rattle.std.specs.Prelude.{ℕ, ◌+◌, ◌<◌, ◌≤◌, ◌≡◌, true, cond, Bool, ◌&&◌, List, eqb, ltb, get_or, length, drop}
+use Rattle.std.specs.Prelude.{ℕ, ◌+◌, ◌<◌, ◌≤◌, ◌≡◌, true, cond, Bool, ◌&&◌, List, eqb, ltb, get_or, length, drop, Option}
 use Rattle.table.specs.declared.geometry.Geometry.{Geometry}
 use Rattle.table.specs.Words.{kept_of, invalid}
-use Rattle.table.specs.View.{View, view, live, current}
+use Rattle.table.specs.View.{View, live, current}
+use Rattle.table.specs.declared.stores.Stores.{Stores}
+use Rattle.table.specs.Made.{Made, shown}
 use Rattle.entries.specs.Frames.{used, set_frames}
-use Rattle.survivors.specs.declared.lost.Lost.{Lost}
 use Rattle.survivors.specs.Survivors.{survivors}
 use Rattle.counting.specs.Counting.{count}
 use Rattle.counting.specs.Cyclic.{first_after}
 use Rattle.table.specs.Geometry.{words_of}
-use Rattle.table.specs.Stores.{Store, Stored}
+use Rattle.table.specs.Stores.{Store}
 use Rattle.entries.specs.Tally.{copy}
 use Rattle.recovery.specs.Numbering.{holder_of}
 use Rattle.recovery.specs.code.Tallies.{holders_by, holder_by}
@@ -20,8 +21,8 @@ pub record AgreesTo (g : Geometry) (w : View) (s : List ℕ) (k : ℕ) : Type 0 
   pub at : (n : ℕ) → n < k → live w n ≡ true → get_or s n 0 ≡ used g w n 0
 
 -- while anything is left of the limit
-pub record Counts (g : Geometry) (lost : Lost) (left : ℕ) (t s : List ℕ) : Type 0 where
-  pub known : (left ≡ 0 → ⊥) → AgreesTo g (survivors lost (view g t)) s g.nodes
+pub record Counts (lost : Option ℕ) (a : Stores) (s : List ℕ) : Type 0 where
+  pub known : (a.left ≡ 0 → ⊥) → AgreesTo a.g (survivors lost (shown a)) s a.g.nodes
 
 -- what a node uses once its entry with this state word, Invalid, takes a partner: one more, unless a kept copy gives way to it
 unfoldable pub used_with : ℕ → ℕ → ℕ
@@ -48,16 +49,16 @@ pub record Filled (g : Geometry) (w : View) (k : ℕ) (s s' : List ℕ) : Type 0
   pub size : length s' ≡ length s
 
 -- what a part of the stage needs
-pub record Ready (g : Geometry) (lost : Lost) (left : ℕ) (t s : List ℕ) : Type 0 where
-  pub long : words_of g ≤ length t
-  pub room : g.nodes ≤ length s
-  pub counts : Counts g lost left t s
+pub record Ready (lost : Option ℕ) (a : Stores) (s : List ℕ) : Type 0 where
+  pub long : words_of a.g ≤ length a.table.now
+  pub room : a.g.nodes ≤ length s
+  pub counts : Counts lost a s
 
 -- a part of the stage: its stores, a function of the survivors' view, and the scratch, whose words from N on are as they were
-pub record Turned (g : Geometry) (lost : Lost) (f : View → List Store) (left : ℕ) (t t' s s' : List ℕ) (left' : ℕ) : Type 0 where
-  pub stores : Stored g left (f (survivors lost (view g t))) t t' left'
-  pub counts : Counts g lost left' t' s'
-  pub rest : drop g.nodes s' ≡ drop g.nodes s
+pub record Turned (lost : Option ℕ) (f : View → List Store) (a a' : Stores) (s s' : List ℕ) : Type 0 where
+  pub made : Made a (f (survivors lost (shown a))) a'
+  pub counts : Counts lost a' s'
+  pub rest : drop a.g.nodes s' ≡ drop a.g.nodes s
   pub size : length s' ≡ length s
 
 -- ---- the frames in use, before the first item
@@ -71,9 +72,9 @@ pub record FilledFrom (n k : ℕ) (u s s' : List ℕ) : Type 0 where
 -- ---- an item's turn in the partner stage finds its copies as they were at the stage's start; one with a holder of each number has no single copy.
 
 -- while anything is left of the limit: an item has one copy, and this holder
-pub record Single (g : Geometry) (lost : Lost) (left : ℕ) (t : List ℕ) (b holder : ℕ) : Type 0 where
-  pub one : (left ≡ 0 → ⊥) → count (copy (survivors lost (view g t)) b) g.nodes ≡ 1
-  pub is : (left ≡ 0 → ⊥) → holder ≡ holder_of g (survivors lost (view g t)) b
+pub record Single (lost : Option ℕ) (a : Stores) (b holder : ℕ) : Type 0 where
+  pub one : (a.left ≡ 0 → ⊥) → count (copy (survivors lost (shown a)) b) a.g.nodes ≡ 1
+  pub is : (a.left ≡ 0 → ⊥) → holder ≡ holder_of a.g (survivors lost (shown a)) b
 
 -- how the items stand by their tallies: with two holders and more an item has not one copy, else it has one, and the tally tells its holder
 pub record Stands (g : Geometry) (w : View) (b tally : ℕ) : Type 0 where
@@ -84,11 +85,11 @@ pub record Stands (g : Geometry) (w : View) (b tally : ℕ) : Type 0 where
 abbrev pub Settled : Geometry → View → List ℕ → Type 0
 Settled g w s = (b : ℕ) → b < g.items → Stands g w b (get_or s b 0)
 
-pub record Settles (g : Geometry) (lost : Lost) (left : ℕ) (t s : List ℕ) : Type 0 where
-  pub settled : (left ≡ 0 → ⊥) → Settled g (survivors lost (view g t)) s
+pub record Settles (lost : Option ℕ) (a : Stores) (s : List ℕ) : Type 0 where
+  pub settled : (a.left ≡ 0 → ⊥) → Settled a.g (survivors lost (shown a)) s
 
 -- what an item's turn needs
-pub record Passable (g : Geometry) (lost : Lost) (left : ℕ) (t s : List ℕ) (b tally : ℕ) : Type 0 where
-  pub ready : Ready g lost left t s
-  pub there : b < g.items
-  pub stands : (left ≡ 0 → ⊥) → Stands g (survivors lost (view g t)) b tally
+pub record Passable (lost : Option ℕ) (a : Stores) (s : List ℕ) (b tally : ℕ) : Type 0 where
+  pub ready : Ready lost a s
+  pub there : b < a.g.items
+  pub stands : (a.left ≡ 0 → ⊥) → Stands a.g (survivors lost (shown a)) b tally

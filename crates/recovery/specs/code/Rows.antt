@@ -31,6 +31,10 @@ pub record Listed (f : ℕ → ℕ) (m : ℕ) (l : List ℕ) (r : ℕ) : Type 0 
   pub gap : (k : ℕ) → k < r → (j : ℕ) → reached l k ≤ j → j < get_or l k 0 → f j ≡ 0
   pub rest : (j : ℕ) → reached l r ≤ j → j < m → f j ≡ 0
 
+-- a list of just these items
+abbrev pub ListedAll : (ℕ → ℕ) → ℕ → List ℕ → Type 0
+ListedAll f m l = Listed f m l (length l)
+
 pub record Listing (f : ℕ → ℕ) (m : ℕ) (l l' : List ℕ) (r : ℕ) : Type 0 where
   pub listed : Listed f m l' r
   pub size : length l' ≡ length l

@@ -1,4 +1,5 @@
 -- Recoveries that are broken off, none or many: what the survivors have for the restore stands, and they are the same nodes.
+use Rattle.std.specs.Prelude.{Ok, Option}
 use Prim.Native.Nat.{ℕ}
 use mathlib.Core.Path.{◌≡◌, refl, ◌∙◌}
 use mathlib.Core.Bool.{false}
@@ -7,11 +8,9 @@ use Rattle.counting.proofs.Laws.Tests.{by_cases}
 use Rattle.table.specs.declared.geometry.Geometry.{Geometry}
 use Rattle.table.specs.View.{view}
 use Rattle.table.specs.Answers.{table_of}
-use Rattle.entries.specs.declared.check.Checked.TheVariants.{Passed}
 use Rattle.entries.specs.Check.{sizes_of}
 use Rattle.entries.proofs.Laws.CheckFacts.{Shape, facts_sizes}
 use Rattle.homes.proofs.Laws.SoundKept.{shape_after}
-use Rattle.survivors.specs.declared.lost.Lost.{Lost}
 use Rattle.survivors.specs.Survivors.{survivors, lost_outside, too_few}
 use Rattle.recovery.specs.Recover.{scratch_words, recover_of}
 use Rattle.recovery.proofs.Laws.RecoverPlan.{few_refused}
@@ -21,11 +20,11 @@ use Rattle.recovery.proofs.Laws.RecoverTheorem.{recover_accepts, recover_keeps}
 use Rattle.restore.specs.Strike.{Attempt, broken_off}
 
 -- t before, t' after
-pub record Attempted (g : Geometry) (saved : ℕ → ℕ) (number : ℕ) (lost : Lost) (t t' : List ℕ) : Type 0 where
+pub record Attempted (g : Geometry) (saved : ℕ → ℕ) (number : ℕ) (lost : Option ℕ) (t t' : List ℕ) : Type 0 where
   pub shape : Shape t' g
   pub going : Going g saved number (survivors lost (view g t)) (survivors lost (view g t'))
 
-module _ (g : Geometry) (saved : ℕ → ℕ) (number : ℕ) (lost : Lost) (inside : lost_outside g lost ≡ false) where
+module _ (g : Geometry) (saved : ℕ → ℕ) (number : ℕ) (lost : Option ℕ) (inside : lost_outside g lost ≡ false) where
   nothing_done : (t : List ℕ) → Shape t g → Ready g saved number (survivors lost (view g t)) → Attempted g saved number lost t t
   nothing_done t s r = record { shape = s; going = record { ready = r; same = λ n. refl } }
 
@@ -40,7 +39,7 @@ module _ (g : Geometry) (saved : ℕ → ℕ) (number : ℕ) (lost : Lost) (insi
         going = recover_keeps t g saved number lost passed inside r room a.limit;
       }))
     where
-      passed : sizes_of t ≡ Passed g
+      passed : sizes_of t ≡ Ok g
       passed = facts_sizes t g s
 
   pub attempts :

@@ -1,4 +1,5 @@
 -- Laws of `specs/Call.antt`: the contract of the one function that carries any call out, call by call.
+use Rattle.std.specs.Prelude.{Option}
 use Prim.Native.Nat.{ℕ}
 use mathlib.Core.Path.{◌≡◌, refl}
 use mathlib.Core.List.{List}
@@ -14,7 +15,6 @@ use Rattle.calls.specs.Write.{write_of}
 use Rattle.checkpoints.specs.Open.{open_of}
 use Rattle.checkpoints.specs.Create.{create_of}
 use Rattle.checkpoints.specs.Commit.{commit_of, abandon_of}
-use Rattle.survivors.specs.declared.lost.Lost.{Lost}
 use Rattle.restore.specs.declared.call.Call.{Call}
 use Rattle.restore.specs.declared.call.Call.TheVariants.{Format, Check, Stretch, Read, Write, Evict, Open, Create, Commit, Abandon, Recover}
 use Rattle.recovery.specs.Recover.{recover_of, RecoverMeets}
@@ -55,7 +55,7 @@ module _ {limit : ℕ} {t t' : List ℕ} (s : List ℕ) {r : Answer} {call : Cal
   unfolding plan_of
   out_abandon e m = rw e (record { meets = m; scratch = refl })
 
-  pub out_recover : {s' : List ℕ} {lost : Lost} → call ≡ Recover lost → RecoverMeets (recover_of t lost (length s)) limit t t' s s' r → CarriedOut call limit t t' s s' r
+  pub out_recover : {s' : List ℕ} {lost : Option ℕ} → call ≡ Recover lost → RecoverMeets (recover_of t lost (length s)) limit t t' s s' r → CarriedOut call limit t t' s s' r
   unfolding plan_of
   out_recover e m = rw e (record { meets = m.meets; scratch = m.scratch })
 

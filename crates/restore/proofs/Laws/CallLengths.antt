@@ -1,4 +1,5 @@
 -- How long the lists of Format, Read, Write, Evict, Open, Create, Commit and Abandon are.
+use Rattle.std.specs.Prelude.{None, Option, Some}
 use Prim.Native.Nat.{ℕ, ◌+◌, ◌*◌, ◌/◌, ◌%◌, ◌≤◌}
 use mathlib.Core.Path.{◌≡◌, refl, ap, ◌∙◌}
 use mathlib.Core.Bool.{cond, ◌||◌}
@@ -18,15 +19,14 @@ use Rattle.layout.proofs.Laws.Format.{format_accepted}
 use Rattle.homes.specs.declared.places.Place.{Place}
 use Rattle.homes.specs.declared.places.Place.TheVariants.{Current, Kept}
 use Rattle.homes.specs.declared.home.Arrival.{Arrival}
-use Rattle.checkpoints.specs.declared.checkpoint.Closing.{Closing}
-use Rattle.checkpoints.specs.declared.checkpoint.Closing.TheVariants.{Committed, Abandoned}
+use Rattle.homes.specs.declared.home.Dropped.{Dropped}
 use Rattle.calls.specs.Transitions.{change_to}
 use Rattle.calls.specs.Read.{fetches, fetch_from, fetch_stores, read_stores, server_of, served, server_changes, reader_changes}
 use Rattle.calls.specs.Write.{other_change, other_changes, other_stores, own_keep, own_changes, write_stores}
-use Rattle.homes.specs.Home.{arrival_of, drop_stores, arrival_changes, takeover_stores, home_of, home_stores_by, home_stores}
+use Rattle.homes.specs.Home.{arrival_of, drop_by, drop_stores, arrival_changes, takeover_stores, home_of, home_stores_by, home_stores}
 use Rattle.homes.specs.Evict.{dropped, source_stores, moved_to, moved_stores, evict_stores}
 use Rattle.checkpoints.specs.Create.{has_sharer, precommit2_stores, create_item}
-use Rattle.checkpoints.specs.Checkpoint.{is_precommit, entries_to, to_commit, commit_change, abandon_change, close_change}
+use Rattle.checkpoints.specs.Checkpoint.{is_precommit, entries_to, to_commit, commit_change, abandon_change}
 use Rattle.checkpoints.specs.Commit.{committing_mark, committed_mark, commit_stores, running_mark, abandon_stores}
 use Rattle.restore.proofs.Laws.Lengths.{cond_short, then_short, changes_short, pass_short, marks_short, entries_short}
 
@@ -98,8 +98,12 @@ home_short g v place h b code value =
     let a = arrival_of g v place h b in
     cond_short a.takeover (takeover_stores h b code a) _ 3 (omega arith)
     (then_short (drop_stores h a) (map (entry_store h b) (arrival_changes place code value a)) 1 2
-    (cond_short a.drops _ [] 1 (omega arith) (omega arith))
+    (drop_short a.drop)
     (changes_short h b (arrival_changes place code value a) 2 (arrival_short place code value a)))
+  where
+    drop_short : (d : Option Dropped) → length (drop_by h d) ≤ 1
+    drop_short None = omega arith
+    drop_short (Some d) = omega arith
 
 -- ---- Evict
 
@@ -122,21 +126,24 @@ create_length g v b o = omega (arith, partner_short g v b o)
 
 -- ---- Commit, Abandon
 
-close_short : (way : Closing) (e : Entry) → length (close_change way e) ≤ 1
-unfolding close_change commit_change abandon_change
-close_short Committed e = cond_short (to_commit e.state) _ [] 1 (omega arith) (omega arith)
-close_short Abandoned e = cond_short (is_precommit (current e)) _ [] 1 (omega arith) (omega arith)
+commit_short : (e : Entry) → length (commit_change e) ≤ 1
+unfolding commit_change
+commit_short e = cond_short (to_commit e.state) _ [] 1 (omega arith) (omega arith)
+
+abandon_short : (e : Entry) → length (abandon_change e) ≤ 1
+unfolding abandon_change
+abandon_short e = cond_short (is_precommit (current e)) _ [] 1 (omega arith) (omega arith)
 
 pub commit_length_lem : (g : Geometry) (v : View) → length (commit_stores g v) ≤ g.nodes + g.nodes * g.items * 1 + g.nodes
 unfolding commit_stores
 commit_length_lem g v =
-    then_short (marks_to g v committing_mark ++ entries_to g v (close_change Committed)) (marks_to g v committed_mark) _ _
-    (then_short (marks_to g v committing_mark) (entries_to g v (close_change Committed)) _ _ (marks_short g v committing_mark)
-    (entries_short g v (close_change Committed) 1 (close_short Committed)))
+    then_short (marks_to g v committing_mark ++ entries_to g v commit_change) (marks_to g v committed_mark) _ _
+    (then_short (marks_to g v committing_mark) (entries_to g v commit_change) _ _ (marks_short g v committing_mark)
+    (entries_short g v commit_change 1 commit_short))
     (marks_short g v committed_mark)
 
 pub abandon_length : (g : Geometry) (v : View) → length (abandon_stores g v) ≤ g.nodes * g.items * 1 + g.nodes
 unfolding abandon_stores
 abandon_length g v =
-    then_short (entries_to g v (close_change Abandoned)) (marks_to g v running_mark) _ _ (entries_short g v (close_change Abandoned) 1 (close_short Abandoned))
+    then_short (entries_to g v abandon_change) (marks_to g v running_mark) _ _ (entries_short g v abandon_change 1 abandon_short)
     (marks_short g v running_mark)

@@ -1,4 +1,5 @@
 -- However a Read, Write, Evict, Open, Create or Abandon is cut, and whichever node is lost then, the survivors are ready for the point last saved.
+use Rattle.std.specs.Prelude.{Option}
 use Prim.Native.Nat.{ℕ, ◌^◌, ◌<◌}
 use mathlib.Core.Path.{◌≡◌}
 use mathlib.Core.Bool.{true}
@@ -27,7 +28,6 @@ use Rattle.homes.proofs.Laws.EvictTheorem.{carried as evict-carried, admits, fro
 use Rattle.checkpoints.proofs.Laws.OpenTheorem.{carried as open_carried, open_keeps}
 use Rattle.checkpoints.proofs.Laws.CreateTheorem.{passed as create-passed, create_keeps}
 use Rattle.checkpoints.proofs.Laws.AbandonTheorem.{carried as abandon-carried, abandon_keeps}
-use Rattle.survivors.specs.declared.lost.Lost.{Lost}
 use Rattle.survivors.specs.Survivors.{survivors}
 use Rattle.recovery.proofs.Laws.Ready.{Ready}
 use Rattle.restore.proofs.Laws.KeptReady.{kept_ready, marks_ready}
@@ -56,28 +56,28 @@ module _ (p : ℕ) (low : p < 2) (x : ℕ) where
 
 module _ (t : List ℕ) (g : Geometry) (values saved : ℕ → ℕ) (number : ℕ) (s : Serves t g values saved number) where
   pub read_ready :
-      (n b : ℕ) {g' : Geometry} {x : ℕ} {ss : List Store} → read_of t n b ≡ carry g' x ss → (limit : ℕ) (lost : Lost)
+      (n b : ℕ) {g' : Geometry} {x : ℕ} {ss : List Store} → read_of t n b ≡ carry g' x ss → (limit : ℕ) (lost : Option ℕ)
       → Ready g saved number (survivors lost (view g (after g' limit ss t)))
   read_ready n b accepted limit lost =
       let e = same_geometry t s.passed (read-carried t n b accepted).passed in
       rw e (kept_ready t g values saved number s _ (read_keeps t n b (rw e at accepted) limit) lost)
 
   pub write_ready :
-      (n b y : ℕ) {g' : Geometry} {x : ℕ} {ss : List Store} → write_of t n b y ≡ carry g' x ss → (limit : ℕ) (lost : Lost)
+      (n b y : ℕ) {g' : Geometry} {x : ℕ} {ss : List Store} → write_of t n b y ≡ carry g' x ss → (limit : ℕ) (lost : Option ℕ)
       → Ready g saved number (survivors lost (view g (after g' limit ss t)))
   write_ready n b y accepted limit lost =
       let e = same_geometry t s.passed (write-carried t n b y accepted).passed in
       rw e (kept_ready t g values saved number s _ (write_keeps t n b y (rw e at accepted) limit) lost)
 
   pub create_ready :
-      {g' : Geometry} {x : ℕ} {ss : List Store} → create_of t ≡ carry g' x ss → (limit : ℕ) (lost : Lost)
+      {g' : Geometry} {x : ℕ} {ss : List Store} → create_of t ≡ carry g' x ss → (limit : ℕ) (lost : Option ℕ)
       → Ready g saved number (survivors lost (view g (after g' limit ss t)))
   create_ready accepted limit lost =
       let e = same_geometry t s.passed (create-passed t accepted) in
       rw e (kept_ready t g values saved number s _ (create_keeps t (rw e at accepted) limit) lost)
 
   pub open_ready :
-      {g' : Geometry} {x : ℕ} {ss : List Store} → open_of t ≡ carry g' x ss → (limit : ℕ) (lost : Lost)
+      {g' : Geometry} {x : ℕ} {ss : List Store} → open_of t ≡ carry g' x ss → (limit : ℕ) (lost : Option ℕ)
       → Ready g saved number (survivors lost (view g (after g' limit ss t)))
   open_ready accepted limit lost =
       let e = same_geometry t s.passed (open_carried t accepted).passed in
@@ -86,7 +86,7 @@ module _ (t : List ℕ) (g : Geometry) (values saved : ℕ → ℕ) (number : �
       (open_keeps t (rw e at accepted) limit) lost)
 
   pub abandon_ready :
-      {g' : Geometry} {x : ℕ} {ss : List Store} → abandon_of t ≡ carry g' x ss → (limit : ℕ) (lost : Lost)
+      {g' : Geometry} {x : ℕ} {ss : List Store} → abandon_of t ≡ carry g' x ss → (limit : ℕ) (lost : Option ℕ)
       → Ready g saved number (survivors lost (view g (after g' limit ss t)))
   abandon_ready accepted limit lost =
       let e = same_geometry t s.passed (abandon-carried t accepted).passed in
@@ -96,7 +96,7 @@ module _ (t : List ℕ) (g : Geometry) (values saved : ℕ → ℕ) (number : �
 
   module _ (n b : ℕ) (place : Place) where
     evict_here :
-        {x : ℕ} {ss : List Store} → evict_of t n b place ≡ carry g x ss → (limit : ℕ) (lost : Lost)
+        {x : ℕ} {ss : List Store} → evict_of t n b place ≡ carry g x ss → (limit : ℕ) (lost : Option ℕ)
         → Ready g saved number (survivors lost (view g (after g limit ss t)))
     evict_here accepted limit lost = by_cases (dropped place ((view g t).entry n b))
         (λ d. kept_ready t g values saved number s _ (evict_drops_keeps t n b place accepted d limit) lost)
@@ -107,7 +107,7 @@ module _ (t : List ℕ) (g : Geometry) (values saved : ℕ → ℕ) (number : �
         (evict_moves_keeps t n b place accepted d limit) lost)
 
     pub evict_ready :
-        {g' : Geometry} {x : ℕ} {ss : List Store} → evict_of t n b place ≡ carry g' x ss → (limit : ℕ) (lost : Lost)
+        {g' : Geometry} {x : ℕ} {ss : List Store} → evict_of t n b place ≡ carry g' x ss → (limit : ℕ) (lost : Option ℕ)
         → Ready g saved number (survivors lost (view g (after g' limit ss t)))
     evict_ready accepted limit lost =
         let e = same_geometry t s.passed (evict-carried t n b place accepted).passed in

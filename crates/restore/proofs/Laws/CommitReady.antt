@@ -1,4 +1,5 @@
 -- However a Commit is cut, the survivors are ready: for the point that it commits if one of them carries its number, else for the point before.
+use Rattle.std.specs.Prelude.{Ok, Option}
 use Prim.Native.Nat.{ℕ, ◌+◌, ◌-◌, ◌^◌, ◌<◌, ◌≤◌}
 use mathlib.Core.Path.{◌≡◌, refl, sym, ap, ◌∙◌}
 use mathlib.Core.Logic.{◌⊎◌, inl, inr, ◌≢◌}
@@ -20,7 +21,6 @@ use Rattle.table.specs.Answers.{carry}
 use Rattle.entries.specs.Tally.{has}
 use Rattle.entries.proofs.Laws.Kinds.{Kind, clean, dirty, created, has_live, has_code, clean_apart, created_apart}
 use Rattle.entries.proofs.Laws.SoundFacts.{SoundTable, phase_in}
-use Rattle.homes.specs.declared.admission.Admission.TheVariants.{Admitted}
 use Rattle.checkpoints.specs.Commit.{committing_mark, committed_mark, commit_admission, commit_of}
 use Rattle.homes.proofs.Laws.Kept.{Live, live_test, test_live}
 use Rattle.checkpoints.proofs.Laws.KeptMarks.{same_entries}
@@ -31,7 +31,6 @@ use Rattle.checkpoints.proofs.Laws.CommitTheorem.{carried, commit_keeps}
 use Rattle.checkpoints.proofs.Laws.CommitSound.{not_owned}
 use Rattle.checkpoints.proofs.Laws.CommitServes.{no_forward}
 use Rattle.homes.proofs.Laws.Serves.{CurrentHave, BackHave, Serves, same_geometry, serves_number}
-use Rattle.survivors.specs.declared.lost.Lost.{Lost}
 use Rattle.counting.proofs.Laws.Exists.{exists_here, exists_at}
 use Rattle.survivors.specs.Survivors.{survivors, carries}
 use Rattle.survivors.specs.Direction.{committing, forward_in}
@@ -43,7 +42,7 @@ use Rattle.restore.proofs.Laws.KeptReady.{facts, some_item, sound_standing, chos
 
 -- ---- the table at entry: two copies of each item for a roll forward, at the current value
 
-module _ (g : Geometry) (v : View) (phase number : ℕ) (good : SoundTable g v phase number) (admitted : commit_admission g v ≡ Admitted) where
+module _ (g : Geometry) (v : View) (phase number : ℕ) (good : SoundTable g v phase number) (admitted : commit_admission g v ≡ (Ok tt)) where
   forward_held : (b n code : ℕ) → code < 8 → forward_number code ≢ 0 → Only g.nodes (has v b code) n → Holds g true v b n
   forward_held b n code l d o =
       let e = has_code v b n code o.holds in
@@ -100,8 +99,8 @@ module _ (number : ℕ) (room : number < 2 ^ 32 - 1) where
 -- ---- v at entry, u at the cut
 
 module _
-    (g : Geometry) (v u : View) (number : ℕ) (good : SoundTable g v 1 number) (admitted : commit_admission g v ≡ Admitted) (some : 0 < g.items)
-    (values saved : ℕ → ℕ) (have : CurrentHave g v values) (back : BackHave g v saved) (cut : CommitCut g v u) (lost : Lost) where
+    (g : Geometry) (v u : View) (number : ℕ) (good : SoundTable g v 1 number) (admitted : commit_admission g v ≡ (Ok tt)) (some : 0 < g.items)
+    (values saved : ℕ → ℕ) (have : CurrentHave g v values) (back : BackHave g v saved) (cut : CommitCut g v u) (lost : Option ℕ) where
   abbrev left : View
   left = survivors lost u
 
@@ -258,7 +257,7 @@ module _ (t : List ℕ) (g : Geometry) (values saved : ℕ → ℕ) (number : �
     opened : phase_in g (view g t) ≡ 1
     opened = commit_opened g (view g t) _ _ sound_number (some_item t g values saved number s) (carried t accepted).admitted
 
-    ready_here : (limit : ℕ) (lost : Lost) →
+    ready_here : (limit : ℕ) (lost : Option ℕ) →
         let w = survivors lost (view g (after g limit ss t)) in
         Ready g (λ b. cond (carries g (number + 1) w) (values b) (saved b)) (cond (carries g (number + 1) w) (number + 1) number) w
     ready_here limit lost =
@@ -266,7 +265,7 @@ module _ (t : List ℕ) (g : Geometry) (values saved : ℕ → ℕ) (number : �
         s.current s.back (commit_keeps t accepted limit) lost
 
   pub commit_ready :
-      {g' : Geometry} {value : ℕ} {ss : List Store} → commit_of t ≡ carry g' value ss → (limit : ℕ) (lost : Lost) →
+      {g' : Geometry} {value : ℕ} {ss : List Store} → commit_of t ≡ carry g' value ss → (limit : ℕ) (lost : Option ℕ) →
       let w = survivors lost (view g (after g' limit ss t)) in
       Ready g (λ b. cond (carries g (number + 1) w) (values b) (saved b)) (cond (carries g (number + 1) w) (number + 1) number) w
   commit_ready accepted limit lost =

@@ -1,5 +1,6 @@
 -- However the next call is cut, whatever it is but a formatting or a recovery, the survivors are ready: for the save before, or, where a survivor
 -- carries the number of the point that a cut commit makes, for that save.
+use Rattle.std.specs.Prelude.{Option}
 use Prim.Native.Nat.{ℕ, ◌+◌}
 use mathlib.Core.Path.{◌≡◌, refl, sym, ap, ◌∙◌}
 use mathlib.Core.Bool.{Bool, true, false, cond, ◌&&◌}
@@ -21,7 +22,6 @@ use Rattle.homes.specs.Evict.{evict_of}
 use Rattle.checkpoints.specs.Open.{open_of}
 use Rattle.checkpoints.specs.Create.{create_of}
 use Rattle.checkpoints.specs.Commit.{commit_of, abandon_of}
-use Rattle.survivors.specs.declared.lost.Lost.{Lost}
 use Rattle.restore.specs.declared.call.Call.{Call}
 use Rattle.restore.specs.declared.call.Call.TheVariants.{Format, Check, Stretch, Read, Write, Evict, Open, Create, Commit, Abandon, Recover}
 use Rattle.counting.proofs.Laws.Exists.{exists_not}
@@ -38,7 +38,7 @@ use Rattle.restore.proofs.Laws.Good.{Good}
 use Rattle.restore.proofs.Laws.GoodCall.{check_nothing, stretch_nothing}
 use Rattle.restore.proofs.Laws.RecoverGood.{good_ready}
 
-module _ (t : List ℕ) (memory : Memory) (commits : ℕ) (good : Good t memory commits) (lost : Lost) where
+module _ (t : List ℕ) (memory : Memory) (commits : ℕ) (good : Good t memory commits) (lost : Option ℕ) where
   abbrev G : Geometry
   G = geometry_in t
 

@@ -1,4 +1,5 @@
 -- DEMAND 3 holds: the restore of any struck run.
+use Rattle.std.specs.Prelude.{None, Option, Some}
 use Prim.Native.Nat.{ℕ, ◌+◌, ◌<◌}
 use mathlib.Core.Path.{◌≡◌, refl, sym, ap, ◌∙◌, subst}
 use mathlib.Core.Bool.{Bool, true, false, not, cond}
@@ -14,8 +15,6 @@ use Rattle.table.specs.View.{View, view, live}
 use Rattle.table.proofs.Laws.Puts.{put₁_case}
 use Rattle.table.specs.Answers.{Plan, refuse, nothing_left, carry, table_of}
 use Rattle.homes.proofs.Laws.Kept.{test_live}
-use Rattle.survivors.specs.declared.lost.Lost.{Lost}
-use Rattle.survivors.specs.declared.lost.Lost.TheVariants.{Nobody, Node}
 use Rattle.layout.specs.Formatted.{Formatted}
 use Rattle.restore.specs.declared.call.Call.{Call}
 use Rattle.restore.specs.declared.call.Call.TheVariants.{Format, Check, Stretch, Read, Write, Evict, Open, Create, Commit, Abandon, Recover}
@@ -52,9 +51,9 @@ no_live : (g : Geometry) (t : List ℕ) (n : ℕ) → ltb n g.nodes ≡ false �
 unfolding view
 no_live g t n h = rw h refl
 
-no_survivor : (g : Geometry) (t : List ℕ) (lost : Lost) (n : ℕ) → ltb n g.nodes ≡ false → live (survivors lost (view g t)) n ≡ false
-no_survivor g t Nobody n h = no_live g t n h
-no_survivor g t (Node m) n h = put₁_case (λ x. not (eqb x 0) ≡ false) (view g t).mark m 0 n (λ e. refl) (λ e. no_live g t n h)
+no_survivor : (g : Geometry) (t : List ℕ) (lost : Option ℕ) (n : ℕ) → ltb n g.nodes ≡ false → live (survivors lost (view g t)) n ≡ false
+no_survivor g t None n h = no_live g t n h
+no_survivor g t (Some m) n h = put₁_case (λ x. not (eqb x 0) ≡ false) (view g t).mark m 0 n (λ e. refl) (λ e. no_live g t n h)
 
 commit_is : (call : Call) → is_commit call ≡ true → call ≡ Commit
 commit_is (Format n m f) h = absurd (no_both h refl)

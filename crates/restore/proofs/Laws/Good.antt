@@ -1,4 +1,5 @@
 -- The relation of a table to the plain memory and to the commits finished since the last formatting.
+use Rattle.std.specs.Prelude.{Ok}
 use Prim.Native.Nat.{ℕ, ◌<◌}
 use mathlib.Core.Path.{◌≡◌, sym, ap, ◌∙◌}
 use mathlib.Core.List.{List}
@@ -6,7 +7,6 @@ use native.Mathlib.Omega.{arith}
 use lib.ListN.{length}
 use Rattle.table.specs.declared.geometry.Geometry.{Geometry}
 use Rattle.table.proofs.Laws.Words.{nodes_size, items_size, frames_size}
-use Rattle.entries.specs.declared.check.Checked.TheVariants.{Passed}
 use Rattle.entries.specs.Check.{fault_of}
 use Rattle.entries.proofs.Laws.CheckFacts.{Shape, accepted_facts}
 use Rattle.homes.proofs.Laws.Serves.{Serves}
@@ -27,7 +27,7 @@ shape_geometry t g s =
     let f = g.frames in
     rw (s.word, nodes_size n m f (omega (arith, s.sizes)) (omega (arith, s.sizes)) (omega (arith, s.sizes)), items_size n m f (omega (arith, s.sizes)) (omega (arith, s.sizes)) (omega (arith, s.sizes)), frames_size n m f (omega (arith, s.sizes)) (omega (arith, s.sizes)) (omega (arith, s.sizes)))
 
-pub passed_geometry : (t : List ℕ) (g : Geometry) → fault_of t ≡ Passed g → geometry_in t ≡ g
+pub passed_geometry : (t : List ℕ) (g : Geometry) → fault_of t ≡ Ok g → geometry_in t ≡ g
 passed_geometry t g p = shape_geometry t g (accepted_facts t g p).shape
 
 -- ---- from what serves

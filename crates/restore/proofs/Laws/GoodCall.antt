@@ -1,4 +1,5 @@
 -- Every whole call keeps the table related to the plain memory, whatever its arguments, refused or not.
+use Rattle.std.specs.Prelude.{Err, None, Ok, Option, Result, Some}
 use Prim.Native.Nat.{ℕ, suc}
 use mathlib.Core.Path.{◌≡◌, refl}
 use mathlib.Core.Logic.{◌≢◌}
@@ -10,22 +11,16 @@ use lib.Dec.{leb}
 use lib.ListN.{length}
 use Rattle.counting.proofs.Laws.Tests.{by_cases}
 use Rattle.table.specs.declared.geometry.Geometry.{Geometry}
-use Rattle.table.specs.declared.geometry.Made.{Made}
-use Rattle.table.specs.declared.geometry.Made.TheVariants.{Allowed, NotAllowed}
 use Rattle.table.specs.declared.answers.Refusal.{Refusal}
 use Rattle.table.specs.Geometry.{geometry_of, words_of}
 use Rattle.table.specs.Stores.{Store, after}
 use Rattle.table.proofs.Laws.Stores.{after_none}
 use Rattle.table.specs.View.{View, view}
 use Rattle.table.specs.Answers.{Plan, refuse, nothing_left, carry}
-use Rattle.entries.specs.declared.check.Checked.{Checked}
-use Rattle.entries.specs.declared.check.Checked.TheVariants.{Passed, Failed}
 use Rattle.entries.specs.Check.{sizes_of, fault_of}
 use Rattle.layout.specs.Format.{unusable_frames, format_made, format_of}
 use Rattle.layout.specs.Stretch.{checked_plan, check_of, stretch_checked, stretch_of}
-use Rattle.homes.specs.declared.admission.Admission.{Admission}
-use Rattle.homes.specs.declared.admission.Admission.TheVariants.{Admitted, Turned}
-use Rattle.homes.specs.Admission.{plan_admitted, plan_checked, plan_by}
+use Rattle.homes.specs.Admission.{Admission, plan_admitted, plan_checked, plan_by}
 use Rattle.calls.specs.Write.{write_admission, write_stores, write_of}
 use Rattle.checkpoints.specs.Commit.{commit_admission, commit_stores, commit_of, abandon_of}
 use Rattle.calls.specs.Read.{read_of}
@@ -39,7 +34,6 @@ use Rattle.checkpoints.proofs.Laws.OpenServes.{open_serves}
 use Rattle.checkpoints.proofs.Laws.CreateServes.{create_serves}
 use Rattle.checkpoints.proofs.Laws.CommitServes.{commit_serves}
 use Rattle.checkpoints.proofs.Laws.AbandonServes.{abandon_serves}
-use Rattle.survivors.specs.declared.lost.Lost.{Lost}
 use Rattle.restore.specs.declared.call.Call.{Call}
 use Rattle.restore.specs.declared.call.Call.TheVariants.{Format, Check, Stretch, Read, Write, Evict, Open, Create, Commit, Abandon, Recover}
 use Rattle.recovery.specs.Recover.{recover_of}
@@ -64,12 +58,12 @@ unfolding plan_by plan_checked plan_admitted
 plan_something admits value stores t e = checked (fault_of t) e
   where
     admitted : (g : Geometry) (a : Admission) → plan_admitted a (carry g (value g (view g t)) (stores g (view g t))) ≡ nothing_left → ⊥
-    admitted g (Turned r) e = refuse_something e
-    admitted g Admitted e = carry_something e
+    admitted g (Err r) e = refuse_something e
+    admitted g (Ok _) e = carry_something e
 
-    checked : (c : Checked) → plan_checked admits (λ g v. carry g (value g v) (stores g v)) t c ≡ nothing_left → ⊥
-    checked (Failed r) e = refuse_something e
-    checked (Passed g) e = admitted g (admits g (view g t)) e
+    checked : (c : Result Geometry Refusal) → plan_checked admits (λ g v. carry g (value g v) (stores g v)) t c ≡ nothing_left → ⊥
+    checked (Err r) e = refuse_something e
+    checked (Ok g) e = admitted g (admits g (view g t)) e
 
 pub write_something : (t : List ℕ) (n b x : ℕ) → write_of t n b x ≢ nothing_left
 write_something t n b x = plan_something (λ g v. write_admission g v n b) (λ g v. 0) (λ g v. write_stores g v n b x) t
@@ -78,9 +72,9 @@ format_something : (t : List ℕ) (n m f : ℕ) → format_of t n m f ≢ nothin
 unfolding format_made
 format_something t n m f e = go (geometry_of n m f) e
   where
-    go : (made : Made) → format_made t made ≡ nothing_left → ⊥
-    go NotAllowed e = refuse_something e
-    go (Allowed g) e = by_cases (unusable_frames g)
+    go : (made : Option Geometry) → format_made t made ≡ nothing_left → ⊥
+    go None e = refuse_something e
+    go (Some g) e = by_cases (unusable_frames g)
         (λ u. refuse_something (rw u at e))
         (λ u. by_cases (leb (words_of g) (length t))
         (λ l. carry_something (rw (u, l) at e)) (λ l. refuse_something (rw (u, l) at e)))
@@ -91,26 +85,26 @@ pub check_nothing : (t : List ℕ) {g : Geometry} {x : ℕ} {ss : List Store} �
 unfolding checked_plan
 check_nothing t {g} {x} {ss} e = go (fault_of t) e
   where
-    go : (c : Checked) → checked_plan c ≡ carry g x ss → ss ≡ []
-    go (Failed r) e = let z : ◌≡◌ {A = ℕ} 0 1 = cc in absurd (omega arith)
-    go (Passed h) e = cc
+    go : (c : Result Geometry Refusal) → checked_plan c ≡ carry g x ss → ss ≡ []
+    go (Err r) e = let z : ◌≡◌ {A = ℕ} 0 1 = cc in absurd (omega arith)
+    go (Ok h) e = cc
 
 pub stretch_nothing : (t : List ℕ) (n : ℕ) {g : Geometry} {x : ℕ} {ss : List Store} → stretch_of t n ≡ carry g x ss → ss ≡ []
 unfolding stretch_checked
 stretch_nothing t n {g} {x} {ss} e = go (sizes_of t) e
   where
-    go : (c : Checked) → stretch_checked n c ≡ carry g x ss → ss ≡ []
-    go (Failed r) e = let z : ◌≡◌ {A = ℕ} 0 1 = cc in absurd (omega arith)
-    go (Passed h) e =
+    go : (c : Result Geometry Refusal) → stretch_checked n c ≡ carry g x ss → ss ≡ []
+    go (Err r) e = let z : ◌≡◌ {A = ℕ} 0 1 = cc in absurd (omega arith)
+    go (Ok h) e =
         by_cases (leb h.nodes n)
         (λ y. let e' = rw y at e in let z : ◌≡◌ {A = ℕ} 0 1 = cc in absurd (omega arith)) (λ y. let e' = rw y at e in cc)
 
 -- ---- THE STEP
 
 module _ (t : List ℕ) (memory : Memory) (commits : ℕ) (good : Good t memory commits)
-    (recovers : (lost : Lost) (scratch : ℕ) (g : Geometry) (x : ℕ) (ss : List Store) → recover_of t lost scratch ≡ carry g x ss
+    (recovers : (lost : Option ℕ) (scratch : ℕ) (g : Geometry) (x : ℕ) (ss : List Store) → recover_of t lost scratch ≡ carry g x ss
     → Good (after g (length ss) ss t) (record { values = memory.saved; saved = memory.saved }) commits)
-    (recover_something : (lost : Lost) (scratch : ℕ) → recover_of t lost scratch ≢ nothing_left) where
+    (recover_something : (lost : Option ℕ) (scratch : ℕ) → recover_of t lost scratch ≢ nothing_left) where
   nothing_stored : (g : Geometry) (ss : List Store) → ss ≡ [] → Good (after g (length ss) ss t) memory commits
   nothing_stored g ss e = rw (e, after_none g 0 t) good
 

@@ -1,4 +1,5 @@
 -- A hit: whatever the words of the lost node become, the survivors are as they were.
+use Rattle.std.specs.Prelude.{None, Option, Some}
 use Prim.Native.Nat.{ℕ, ◌+◌, ◌*◌, ◌≤◌, ◌<◌}
 use mathlib.Core.Path.{◌≡◌, refl, ap, ◌∙◌, fun_ext}
 use mathlib.Core.Logic.{◌≢◌}
@@ -19,8 +20,6 @@ use Rattle.table.proofs.Laws.View.{entry_same}
 use Rattle.entries.proofs.Laws.CheckFacts.{Shape}
 use Rattle.homes.proofs.Laws.Kept.{Live}
 use Rattle.homes.proofs.Laws.FramesKept.{used_no_more}
-use Rattle.survivors.specs.declared.lost.Lost.{Lost}
-use Rattle.survivors.specs.declared.lost.Lost.TheVariants.{Nobody, Node}
 use Rattle.survivors.specs.Survivors.{survivors}
 use Rattle.recovery.proofs.Laws.Ready.{Ready}
 use Rattle.recovery.proofs.Laws.SameMarks.{same_live, live_same, same_going}
@@ -87,7 +86,7 @@ module _ (g : Geometry) (lost : ℕ) (inside : lost < g.nodes) where
         same : entry_in t' (entry_at g n b) ≡ entry_in t (entry_at g n b)
         same = entry_same t t' (entry_at g n b) word
 
-    marks_same : (survivors (Node lost) (view g t')).mark ≡ (survivors (Node lost) (view g t)).mark
+    marks_same : (survivors (Some lost) (view g t')).mark ≡ (survivors (Some lost) (view g t)).mark
     marks_same = fun_ext (λ n. elim (ℕ_discrete n lost) [
       | yes e ↦ rw (eq-eqb n lost e) refl
       | no e ↦ rw (ne_eqb n lost e) (other_mark n e)
@@ -100,23 +99,23 @@ pub live_inside : (g : Geometry) (t : List ℕ) (n : ℕ) → live (view g t) n 
 unfolding view
 live_inside g t n h = by_cases (ltb n g.nodes) (λ y. ltb-true n g.nodes y) (λ y. absurd (no_both h (rw y refl)))
 
-module _ (g : Geometry) (lost : Lost) (t t' : List ℕ) (hit : Hit g lost t t') where
+module _ (g : Geometry) (lost : Option ℕ) (t t' : List ℕ) (hit : Hit g lost t t') where
   pub hit_marks : (survivors lost (view g t')).mark ≡ (survivors lost (view g t)).mark
   hit_marks = go lost hit.one hit.rest
     where
-      go : (lost : Lost) → live_or_none (view g t) lost ≡ true → ((i : ℕ) → of_lost g lost i ≡ false → get_or t' i 0 ≡ get_or t i 0)
+      go : (lost : Option ℕ) → live_or_none (view g t) lost ≡ true → ((i : ℕ) → of_lost g lost i ≡ false → get_or t' i 0 ≡ get_or t i 0)
           → (survivors lost (view g t')).mark ≡ (survivors lost (view g t)).mark
-      go Nobody l r = fun_ext (λ n. ap (λ v. v.mark n) (same_view g t t' (λ i. r i refl)))
-      go (Node n) l r = marks_same g n (live_inside g t n l) t t' r
+      go None l r = fun_ext (λ n. ap (λ v. v.mark n) (same_view g t t' (λ i. r i refl)))
+      go (Some n) l r = marks_same g n (live_inside g t n l) t t' r
 
   pub hit_entries :
       (n b : ℕ) → Live g (survivors lost (view g t)) n → b < g.items → (survivors lost (view g t')).entry n b ≡ (survivors lost (view g t)).entry n b
   hit_entries n b = go lost hit.one hit.rest
     where
-      go : (lost : Lost) → live_or_none (view g t) lost ≡ true → ((i : ℕ) → of_lost g lost i ≡ false → get_or t' i 0 ≡ get_or t i 0)
+      go : (lost : Option ℕ) → live_or_none (view g t) lost ≡ true → ((i : ℕ) → of_lost g lost i ≡ false → get_or t' i 0 ≡ get_or t i 0)
           → Live g (survivors lost (view g t)) n → b < g.items → (survivors lost (view g t')).entry n b ≡ (survivors lost (view g t)).entry n b
-      go Nobody l r a h = ap (λ v. v.entry n b) (same_view g t t' (λ i. r i refl))
-      go (Node m) l r a h = other_entry g m (live_inside g t m l) t t' r n b h (λ e. a.marked (rw (eq-eqb n m e) refl))
+      go None l r a h = ap (λ v. v.entry n b) (same_view g t t' (λ i. r i refl))
+      go (Some m) l r a h = other_entry g m (live_inside g t m l) t t' r n b h (λ e. a.marked (rw (eq-eqb n m e) refl))
 
   pub hit_ready :
       (saved : ℕ → ℕ) (number : ℕ) → Ready g saved number (survivors lost (view g t)) → Ready g saved number (survivors lost (view g t'))
@@ -125,6 +124,6 @@ module _ (g : Geometry) (lost : Lost) (t t' : List ℕ) (hit : Hit g lost t t') 
   pub hit_shape : Shape t g → Shape t' g
   hit_shape s = record { word = hit.rest 0 (zero_outside lost hit.one) ∙ s.word; fair = s.fair; sizes = s.sizes; long = rw hit.size s.long }
     where
-      zero_outside : (lost : Lost) → live_or_none (view g t) lost ≡ true → of_lost g lost 0 ≡ false
-      zero_outside Nobody l = refl
-      zero_outside (Node n) l = rw (ne_eqb 0 (mark_at n) (λ e. omega arith), lt-leb (entry_at g n 0) 0 (omega arith)) refl
+      zero_outside : (lost : Option ℕ) → live_or_none (view g t) lost ≡ true → of_lost g lost 0 ≡ false
+      zero_outside None l = refl
+      zero_outside (Some n) l = rw (ne_eqb 0 (mark_at n) (λ e. omega arith), lt-leb (entry_at g n 0) 0 (omega arith)) refl

@@ -1,4 +1,5 @@
 -- "A copy is refused a home exactly if no other live node can take it.": Evict and Create answer 11 then, and only then.
+use Rattle.std.specs.Prelude.{Err, Ok}
 use Prim.Native.Nat.{ℕ, ◌<◌}
 use mathlib.Core.Path.{◌≡◌, refl, sym, ap, ◌∙◌}
 use mathlib.Core.Bool.{Bool, true, false, cond, not, ◌&&◌}
@@ -11,9 +12,7 @@ use Rattle.table.specs.declared.answers.Refusal.TheVariants.{PlaceInvalid, NoHom
 use Rattle.table.specs.Words.{invalid}
 use Rattle.table.specs.View.{View, view}
 use Rattle.table.specs.Answers.{Plan, refuse, carry}
-use Rattle.entries.specs.declared.check.Checked.TheVariants.{Passed}
 use Rattle.entries.specs.Check.{fault_of}
-use Rattle.homes.specs.declared.admission.Admission.TheVariants.{Admitted, Turned}
 use Rattle.homes.specs.declared.places.Place.{Place}
 use Rattle.homes.specs.declared.places.Place.TheVariants.{Current}
 use Rattle.homes.specs.Admission.{admission_of, plan_admitted, plan_checked, plan_by}
@@ -53,7 +52,7 @@ module _ (g : Geometry) (v : View) (place : Place) (n b : ℕ) (h : n < g.nodes)
 
 -- a copy that goes home is refused only for want of one
 goes_refused : (p q r : Bool) (x : Plan) → homeless x ≡ false → (not p && not q) ≡ true
-    → homeless (plan_admitted (cond p (Turned PlaceInvalid) (cond q Admitted (cond r (Turned NoHome) Admitted))) x) ≡ r
+    → homeless (plan_admitted (cond p (Err PlaceInvalid) (cond q (Ok tt) (cond r (Err NoHome) (Ok tt)))) x) ≡ r
 unfolding plan_admitted
 goes_refused true q r x k e = absurd (no_both e refl)
 goes_refused false true r x k e = absurd (no_both e refl)
@@ -61,7 +60,7 @@ goes_refused false false true x k e = refl
 goes_refused false false false x k e = k
 
 pub evict_home :
-    (t : List ℕ) (n b : ℕ) (place : Place) {g : Geometry} → fault_of t ≡ Passed g → admission_of g (view g t) n b ≡ Admitted
+    (t : List ℕ) (n b : ℕ) (place : Place) {g : Geometry} → fault_of t ≡ Ok g → admission_of g (view g t) n b ≡ (Ok tt)
     → goes_home place ((view g t).entry n b) ≡ true → homeless (evict_of t n b place) ≡ no_other g (view g t) place n b
 unfolding plan_by plan_checked place_admission
 evict_home t n b place {g} p a e =
@@ -82,7 +81,7 @@ item_refused g v b = go (no_partner g v b)
     go false = refl
 
 pub create_home :
-    (t : List ℕ) (b : ℕ) {g : Geometry} → fault_of t ≡ Passed g → open_admission g (view g t) ≡ Admitted → dirty_item g (view g t) ≡ b → b < g.items
+    (t : List ℕ) (b : ℕ) {g : Geometry} → fault_of t ≡ Ok g → open_admission g (view g t) ≡ (Ok tt) → dirty_item g (view g t) ≡ b → b < g.items
     → homeless (create_of t)
     ≡ (not (ltb (sharer_of g (view g t) b) g.nodes) && no_other g (view g t) Current (owner_of g (view g t) b) b)
 unfolding no_partner

@@ -1,5 +1,6 @@
 -- However a call that keeps every recovery copy for a roll back is cut, the survivors are ready: for a call that stores no mark, and for one whose marks
 -- keep the number and are in phase 0 or 1.
+use Rattle.std.specs.Prelude.{Option}
 use Prim.Native.Nat.{ℕ, ◌<◌}
 use mathlib.Core.Path.{◌≡◌, refl, sym, ap, ◌∙◌}
 use mathlib.Core.Logic.{inl, inr, ◌≢◌}
@@ -20,7 +21,6 @@ use Rattle.entries.proofs.Laws.CheckFacts.{Accepted, accepted_facts, sound_pair}
 use Rattle.homes.proofs.Laws.Kept.{Live, Kept, live_test, test_live}
 use Rattle.checkpoints.proofs.Laws.KeptMarks.{KeptEntries, KeptMarks}
 use Rattle.homes.proofs.Laws.Serves.{BackHave, Serves}
-use Rattle.survivors.specs.declared.lost.Lost.{Lost}
 use Rattle.counting.proofs.Laws.Exists.{exists_not}
 use Rattle.survivors.specs.Survivors.{survivors}
 use Rattle.survivors.specs.Direction.{committing, forward_in}
@@ -78,7 +78,7 @@ pub record Running (g : Geometry) (v : View) (number : ℕ) (u : View) : Type 0 
   pub numbers : (n : ℕ) → Live g v n → number_of (u.mark n) ≡ number
 
 module _ (g : Geometry) (v u : View) (number : ℕ) (runs : Running g v number u) where
-  pub running_ready : (saved : ℕ → ℕ) → 0 < g.items → Standing g saved false u → (lost : Lost) → Ready g saved number (survivors lost u)
+  pub running_ready : (saved : ℕ → ℕ) → 0 < g.items → Standing g saved false u → (lost : Option ℕ) → Ready g saved number (survivors lost u)
   running_ready saved some stands lost =
       let n = node_survives g saved false u stands lost some in
       standing_ready g saved false u stands lost number
@@ -122,13 +122,13 @@ module _ (t : List ℕ) (g : Geometry) (values saved : ℕ → ℕ) (number : �
   }
 
   -- entries kept, marks as they should be
-  entries_ready : (u : View) → KeptEntries g (view g t) u → Running g (view g t) number u → (lost : Lost) → Ready g saved number (survivors lost u)
+  entries_ready : (u : View) → KeptEntries g (view g t) u → Running g (view g t) number u → (lost : Option ℕ) → Ready g saved number (survivors lost u)
   entries_ready u k runs =
       running_ready g (view g t) u number runs saved some_item
       (standing_kept g (view g t) u runs.same saved false serves_standing k.back k.forms k.frames)
 
   -- ---- no mark stored
-  pub kept_ready : (u : View) → Kept g (view g t) u → (lost : Lost) → Ready g saved number (survivors lost u)
+  pub kept_ready : (u : View) → Kept g (view g t) u → (lost : Option ℕ) → Ready g saved number (survivors lost u)
   kept_ready u k = entries_ready u (record { back = k.back; forms = k.forms; frames = k.frames }) (same_running u k.marks)
 
   -- ---- marks stored, that keep the number and are in phase 0 or 1
@@ -149,5 +149,5 @@ module _ (t : List ℕ) (g : Geometry) (values saved : ℕ → ℕ) (number : �
       ];
     }
 
-    pub marks_ready : (u : View) → KeptMarks g (view g t) f u → (lost : Lost) → Ready g saved number (survivors lost u)
+    pub marks_ready : (u : View) → KeptMarks g (view g t) f u → (lost : Option ℕ) → Ready g saved number (survivors lost u)
     marks_ready u k = entries_ready u k.entries (mixed_running u k.marks)

@@ -1,4 +1,5 @@
 -- However an eviction that sends a copy home is cut, the survivors are ready: the home has the source's recovery copy before the source loses it.
+use Rattle.std.specs.Prelude.{Option}
 use Prim.Native.Nat.{ℕ, ◌<◌}
 use mathlib.Core.Path.{◌≡◌, sym, ap, ◌∙◌}
 use mathlib.Core.Logic.{◌≢◌}
@@ -12,7 +13,6 @@ use Rattle.homes.proofs.Laws.Kept.{Live}
 use Rattle.homes.proofs.Laws.Moving.{Moves, still, twice, moved, Moving}
 use Rattle.homes.proofs.Laws.EvictServes.{moving_back}
 use Rattle.homes.proofs.Laws.Serves.{BackHave, Serves}
-use Rattle.survivors.specs.declared.lost.Lost.{Lost}
 use Rattle.survivors.specs.Survivors.{survivors}
 use Rattle.recovery.proofs.Laws.Ready.{Holds, Ready}
 use Rattle.restore.proofs.Laws.Standing.{Two, Standing, live_before, live_still}
@@ -115,7 +115,7 @@ module _
 module _
     (t : List ℕ) (g : Geometry) (values saved : ℕ → ℕ) (number : ℕ) (s : Serves t g values saved number) (n h b : ℕ) (source : Live g (view g t) n)
     (home : Live g (view g t) h) (item : b < g.items) where
-  pub moving_ready : (u : View) → Moving g n h b (view g t) u → (lost : Lost) → Ready g saved number (survivors lost u)
+  pub moving_ready : (u : View) → Moving g n h b (view g t) u → (lost : Option ℕ) → Ready g saved number (survivors lost u)
   moving_ready u m =
       let runs = same_running t g values saved number s u m.marks in
       running_ready g (view g t) u number runs saved (some_item t g values saved number s)

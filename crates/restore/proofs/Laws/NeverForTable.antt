@@ -1,5 +1,6 @@
 -- Along a history no call but Format is refused with 1, 2, 3 or 20: on a table that passes its checks every refusal of
 -- a call is one of its own.
+use Rattle.std.specs.Prelude.{Err, Ok, Option}
 use Prim.Native.Nat.{ℕ, ◌-◌, ◌^◌, ◌<◌}
 use mathlib.Core.Path.{◌≡◌, refl, ap}
 use mathlib.Core.Logic.{◌≢◌}
@@ -15,13 +16,10 @@ use Rattle.table.specs.Words.{phase_of, number_of, invalid}
 use Rattle.table.specs.Stores.{Store}
 use Rattle.table.specs.View.{View, view}
 use Rattle.table.specs.Answers.{Plan, refuse, nothing_left, carry, refusal_number}
-use Rattle.entries.specs.declared.check.Checked.TheVariants.{Passed}
 use Rattle.entries.specs.Check.{fault_of}
 use Rattle.layout.specs.Stretch.{checked_plan, check_of, stretch_checked, stretch_of}
-use Rattle.homes.specs.declared.admission.Admission.{Admission}
-use Rattle.homes.specs.declared.admission.Admission.TheVariants.{Admitted, Turned}
 use Rattle.homes.specs.declared.places.Place.{Place}
-use Rattle.homes.specs.Admission.{plan_admitted, plan_checked, plan_by, admission_of, frame_full, frame_admission}
+use Rattle.homes.specs.Admission.{Admission, plan_admitted, plan_checked, plan_by, admission_of, frame_full, frame_admission}
 use Rattle.homes.specs.Places.{code_in}
 use Rattle.homes.specs.Home.{no_home}
 use Rattle.homes.specs.Evict.{dropped, place_admission, evict_admission, evict_stores}
@@ -32,7 +30,6 @@ use Rattle.checkpoints.specs.Create.{create_stores, no_partner, create_plan}
 use Rattle.checkpoints.specs.Commit.{created_admission, commit_admission, commit_stores, abandon_stores}
 use Rattle.calls.specs.Read.{read_admission, read_value, read_stores}
 use Rattle.calls.specs.Write.{write_admission, write_stores}
-use Rattle.survivors.specs.declared.lost.Lost.{Lost}
 use Rattle.restore.specs.declared.call.Call.{Call}
 use Rattle.restore.specs.declared.call.Call.TheVariants.{Format, Check, Stretch, Read, Write, Evict, Open, Create, Commit, Abandon, Recover}
 use Rattle.survivors.specs.Survivors.{survivors, lost_outside, too_few}
@@ -50,17 +47,17 @@ abbrev OwnRefusal : Refusal → Type 0
 OwnRefusal r = (3 < refusal_number r) × (refusal_number r ≢ 20)
 
 record Own (a : Admission) : Type 0 where
-  own : (r : Refusal) → a ≡ Turned r → OwnRefusal r
+  own : (r : Refusal) → a ≡ Err r → OwnRefusal r
 
 record OwnPlan (p : Plan) : Type 0 where
   own : (r : Refusal) → p ≡ refuse r → OwnRefusal r
 
 -- ---- admissions
 
-own_admitted : Own Admitted
+own_admitted : Own (Ok tt)
 own_admitted = record { own = λ r e. let z : ◌≡◌ {A = ℕ} 0 1 = cc in absurd (omega arith) }
 
-own_turned : (x : Refusal) → OwnRefusal x → Own (Turned x)
+own_turned : (x : Refusal) → OwnRefusal x → Own (Err x)
 own_turned x h = record { own = λ r e. let q : x ≡ r = cc in rw (← q) h }
 
 own_if : (q : Bool) (a b : Admission) → Own a → Own b → Own (cond q a b)
@@ -68,8 +65,8 @@ own_if true a b x y = x
 own_if false a b x y = y
 
 -- a refusal, if it holds; else what comes after it
-own_next : (q : Bool) (x : Refusal) (b : Admission) → OwnRefusal x → Own b → Own (cond q (Turned x) b)
-own_next q x b h y = own_if q (Turned x) b (own_turned x h) y
+own_next : (q : Bool) (x : Refusal) (b : Admission) → OwnRefusal x → Own b → Own (cond q (Err x) b)
+own_next q x b h y = own_if q (Err x) b (own_turned x h) y
 
 node_own : (g : Geometry) (v : View) (n b : ℕ) → Own (admission_of g v n b)
 unfolding admission_of
@@ -81,13 +78,13 @@ node_own g v n b =
 
 frame_own : (g : Geometry) (v : View) (n b : ℕ) (needed : Bool) (a : Admission) → Own a → Own (frame_admission g v n b needed a)
 unfolding frame_admission
-frame_own g v n b needed (Turned x) h = h
-frame_own g v n b needed Admitted h = own_next (frame_full g v n b needed) _ _ (omega arith) own_admitted
+frame_own g v n b needed (Err x) h = h
+frame_own g v n b needed (Ok _) h = own_next (frame_full g v n b needed) _ _ (omega arith) own_admitted
 
 place_own : (g : Geometry) (v : View) (place : Place) (n b : ℕ) (a : Admission) → Own a → Own (place_admission g v place n b a)
 unfolding place_admission
-place_own g v place n b (Turned x) h = h
-place_own g v place n b Admitted h =
+place_own g v place n b (Err x) h = h
+place_own g v place n b (Ok _) h =
     own_next (eqb (code_in place (v.entry n b)) invalid) _ _ (omega arith)
     (own_if (dropped place (v.entry n b)) _ _ own_admitted (own_next (no_home g v place n b) _ _ (omega arith) own_admitted))
 
@@ -104,10 +101,10 @@ unfolding created_admission
 commit_own g v = go (open_admission g v) (open_own g v)
   where
     go : (a : Admission) → Own a → Own (created_admission g v a)
-    go (Turned x) h = h
-    go Admitted h = own_if (none_dirty g v) _ _ own_admitted (own_turned _ (omega arith))
+    go (Err x) h = h
+    go (Ok _) h = own_if (none_dirty g v) _ _ own_admitted (own_turned _ (omega arith))
 
-recover_own : (g : Geometry) (w : View) (lost : Lost) (scratch : ℕ) → survivors_formed g w ≡ true → Own (recover_admission g w lost scratch)
+recover_own : (g : Geometry) (w : View) (lost : Option ℕ) (scratch : ℕ) → survivors_formed g w ≡ true → Own (recover_admission g w lost scratch)
 unfolding recover_admission
 recover_own g w lost scratch formed =
     own_next (lost_outside g lost) _ _ (omega arith)
@@ -123,8 +120,8 @@ own_carry = record { own = λ r e. let z : ◌≡◌ {A = ℕ} 0 1 = cc in absur
 
 own_plan : (a : Admission) (p : Plan) → Own a → OwnPlan p → OwnPlan (plan_admitted a p)
 unfolding plan_admitted
-own_plan (Turned x) p h k = record { own = λ r e. let q : x ≡ r = cc in h.own r (ap Turned q) }
-own_plan Admitted p h k = k
+own_plan (Err x) p h k = record { own = λ r e. let q : x ≡ r = cc in h.own r (ap Err q) }
+own_plan (Ok _) p h k = k
 
 create_own : (g : Geometry) (v : View) → OwnPlan (create_plan g v)
 unfolding create_plan
@@ -137,7 +134,7 @@ create_own g v = go (none_dirty g v) (no_partner g v (dirty_item g v))
 
 -- ---- on a table that passes its checks
 
-module _ (t : List ℕ) (g : Geometry) (passed : fault_of t ≡ Passed g) where
+module _ (t : List ℕ) (g : Geometry) (passed : fault_of t ≡ Ok g) where
   own_by :
       (admits : Geometry → View → Admission) (acts : Geometry → View → Plan) → Own (admits g (view g t)) → OwnPlan (acts g (view g t))
       → OwnPlan (plan_by admits acts t)
@@ -148,7 +145,7 @@ module _ (t : List ℕ) (memory : Memory) (commits : ℕ) (good : Good t memory 
   abbrev G : Geometry
   G = geometry_in t
 
-  passed : fault_of t ≡ Passed G
+  passed : fault_of t ≡ Ok G
   passed = good.serves.passed
 
   stretch_own : (n : ℕ) → OwnPlan (stretch_of t n)
@@ -163,7 +160,7 @@ module _ (t : List ℕ) (memory : Memory) (commits : ℕ) (good : Good t memory 
   unfolding checked_plan
   check_own = rw passed own_carry
 
-  recovery_own : (lost : Lost) (scratch : ℕ) → OwnPlan (recover_of t lost scratch)
+  recovery_own : (lost : Option ℕ) (scratch : ℕ) → OwnPlan (recover_of t lost scratch)
   unfolding recover_of recover_checked
   recovery_own lost scratch =
       rw (good_sizes t memory commits good)

@@ -1,5 +1,6 @@
 -- How long Recover's list is: the lost mark, at most three stores for each entry rolled, one for each entry numbered, two for each item's partner, and
 -- a mark for each survivor.
+use Rattle.std.specs.Prelude.{None, Option, Some}
 use Prim.Native.Nat.{ℕ, ◌+◌, ◌*◌, ◌/◌, ◌%◌, ◌≤◌}
 use mathlib.Core.Bool.{Bool, cond, not, ◌&&◌}
 use mathlib.Core.List.{List, []}
@@ -11,8 +12,6 @@ use Rattle.table.specs.declared.geometry.Geometry.{Geometry}
 use Rattle.table.specs.Words.{invalid, mark_word}
 use Rattle.table.specs.Stores.{Store}
 use Rattle.table.specs.View.{Entry, View, live, current, kept, updates}
-use Rattle.survivors.specs.declared.lost.Lost.{Lost}
-use Rattle.survivors.specs.declared.lost.Lost.TheVariants.{Nobody, Node}
 use Rattle.survivors.specs.Survivors.{lost_stores, survivors, largest_number, closing_stores}
 use Rattle.survivors.specs.Direction.{forward_in}
 use Rattle.recovery.specs.Sides.{bring_back, settled, roll_change, roll_stores}
@@ -72,12 +71,12 @@ followed_short :
 unfolding followed
 followed_short f h c d p q w = then_short (f w) (h (updates (f w) w)) c d (p w) (q (updates (f w) w))
 
-lost_short : (lost : Lost) → length (lost_stores lost) ≤ 1
-lost_short Nobody = omega arith
-lost_short (Node n) = omega arith
+lost_short : (lost : Option ℕ) → length (lost_stores lost) ≤ 1
+lost_short None = omega arith
+lost_short (Some n) = omega arith
 
 pub recover_length :
-    (g : Geometry) (lost : Lost) (v : View)
+    (g : Geometry) (lost : Option ℕ) (v : View)
     → length (recover_stores g lost v) ≤ 1 + (g.nodes * g.items * 3 + (g.items * g.nodes * 1 + (g.items * 2 + g.nodes)))
 unfolding recover_stores survivor_stores
 recover_length g lost v =

@@ -1,11 +1,11 @@
 -- A rehearsal worked out: its conditions can be met, and what the plain memory has then saved.
+use Rattle.std.specs.Prelude.{Some}
 use Prim.Native.Nat.{ℕ}
 use mathlib.Core.Path.{◌≡◌, refl}
 use mathlib.Core.Bool.{false}
 use mathlib.Core.List.{List, [], ◌∷◌}
 use native.Mathlib.Omega.{arith}
 use lib.ListN.{replicate}
-use Rattle.survivors.specs.declared.lost.Lost.TheVariants.{Node}
 use Rattle.layout.specs.Formatted.{Formatted}
 use Rattle.restore.specs.declared.call.Call.TheVariants.{Format, Write, Open, Create, Commit}
 use Rattle.restore.specs.Memory.{saved_in}
@@ -31,7 +31,7 @@ use Rattle.homes.specs.Admission.{plan_admitted, plan_checked, plan_by, admissio
 use Rattle.homes.specs.Places.{place_by}
 use Rattle.calls.specs.Transitions.{change_to}
 use Rattle.entries.specs.Dirty.{owns_at, owner_of, dirty, dirty_item}
-use Rattle.checkpoints.specs.Checkpoint.{common_mark, is_open, open_admission, live_changes, entries_before, commit_change, close_change}
+use Rattle.checkpoints.specs.Checkpoint.{common_mark, is_open, open_admission, live_changes, entries_before, commit_change}
 use Rattle.homes.specs.Home.{shared_at, shared_item, has_room, place_fits, fits, home_of, dropped_item, current_left}
 use Rattle.homes.specs.Home.{arrival_of, drop_stores, arrival_changes, home_stores_by, home_stores}
 use Rattle.calls.specs.Read.{serves_at, server_of, fetch_from, read_stores, read_value}
@@ -62,7 +62,7 @@ script limit = record {
   calls = written;
   call = Commit;
   limit = limit;
-  lost = Node 0;
+  lost = Some 0;
   words = 5 ∷ 6 ∷ 7 ∷ [];
   limits = 3 ∷ [];
   scratch = 4;
@@ -96,7 +96,7 @@ unfolding every sum count first first_or values_of geometry_of change_of runs af
     first_entries format_stores format_made frames_in frames_at used frames_fit item_test marks_form phases_of points_of
     states_form node_sound nodes_sound item_sound items_sound sound length_of sizes_of sound_of fault_of plan_admitted
     plan_checked plan_by admission_of frame_full frame_admission change_to common_mark is_open open_admission owns_at owner_of
-    dirty dirty_item live_changes entries_before commit_change close_change shared_at shared_item has_room place_fits fits
+    dirty dirty_item live_changes entries_before commit_change shared_at shared_item has_room place_fits fits
     node_after test_after first_after home_of dropped_item current_left arrival_of drop_stores arrival_changes home_stores_by
     home_stores serves_at server_of fetch_from read_stores read_value other_changes other_stores own_keep kept_after
     own_changes write_stores source_stores moved_to evict_stores place_admission start_admission shares_at sharer_of

@@ -1,4 +1,5 @@
 -- The rehearsal's hit is the demand's: it leaves every word that is none of the node's.
+use Rattle.std.specs.Prelude.{None, Option, Some}
 use Prim.Native.Nat.{ℕ, zero, suc, ◌+◌, ◌-◌, ◌≤◌, ◌<◌}
 use mathlib.Core.Path.{◌≡◌, refl, ◌∙◌}
 use mathlib.Core.Logic.{◌≢◌}
@@ -14,8 +15,6 @@ use Rattle.table.specs.declared.geometry.Geometry.{Geometry}
 use Rattle.table.specs.Geometry.{mark_at, entry_at}
 use Rattle.table.specs.View.{view}
 use Rattle.entries.proofs.Laws.CheckFacts.{Shape, facts_sizes}
-use Rattle.survivors.specs.declared.lost.Lost.{Lost}
-use Rattle.survivors.specs.declared.lost.Lost.TheVariants.{Nobody, Node}
 use Rattle.restore.specs.Run.{geometry_in}
 use Rattle.restore.proofs.Laws.RunPoints.{run_history}
 use Rattle.restore.specs.Strike.{live_or_none, of_node, Hit}
@@ -56,10 +55,10 @@ hit_node_rest : (g : Geometry) (n : ℕ) (words t : List ℕ) (i : ℕ) → of_n
 unfolding hit_node
 hit_node_rest g n words t i out = by_cases (ltb n g.nodes) (λ e. rw e (put_rest g n i out words _ t (omega arith))) (λ e. rw e refl)
 
-hit_is : (g : Geometry) (lost : Lost) (words t : List ℕ) → Shape t g → live_or_none (view g t) lost ≡ true → Hit g lost t (hit_by lost words t)
+hit_is : (g : Geometry) (lost : Option ℕ) (words t : List ℕ) → Shape t g → live_or_none (view g t) lost ≡ true → Hit g lost t (hit_by lost words t)
 unfolding hit_by hit_sized
-hit_is g Nobody words t s one = record { one = one; size = refl; rest = λ i out. refl }
-hit_is g (Node n) words t s one =
+hit_is g None words t s one = record { one = one; size = refl; rest = λ i out. refl }
+hit_is g (Some n) words t s one =
     rw (facts_sizes t g s) (record { one = one; size = hit_node_length g n words t; rest = λ i out. hit_node_rest g n words t i out })
 
 module _ (t₀ : List ℕ) (p : Script) (d : Demanded t₀ p) where

@@ -1,4 +1,6 @@
 -- The rehearsal as its code goes: a law for each turn of its loops, and demand 3 of the strike that it is.
+use Rattle.std.specs.Prelude.{Err, None, Ok, Option, Result, Some}
+use Rattle.std.specs.Option.{unwrap_or}
 use Prim.Native.Nat.{ℕ, ◌+◌, ◌-◌, ◌*◌, ◌^◌, ◌≤◌, ◌<◌, min}
 use mathlib.Core.Path.{◌≡◌, refl, sym, ap, ◌∙◌}
 use mathlib.Core.Logic.{◌≢◌}
@@ -17,14 +19,9 @@ use Rattle.table.specs.declared.answers.Refusal.{Refusal}
 use Rattle.table.specs.Geometry.{Placed}
 use Rattle.table.specs.Stores.{Wrote, written}
 use Rattle.table.specs.Answers.{Plan, refuse, nothing_left, carry, answer_of, table_of}
-use Rattle.entries.specs.declared.check.Checked.{Checked}
-use Rattle.entries.specs.declared.check.Checked.TheVariants.{Passed, Failed}
 use Rattle.entries.specs.Check.{sizes_of}
-use Rattle.survivors.specs.declared.lost.Lost.{Lost}
-use Rattle.survivors.specs.declared.lost.Lost.TheVariants.{Nobody, Node}
 use Rattle.restore.specs.declared.call.Call.{Call}
 use Rattle.restore.specs.declared.call.Call.TheVariants.{Check, Recover}
-use Rattle.restore.specs.declared.operations.Operation.{Operation}
 use Rattle.restore.specs.Operations.{call_by}
 use Rattle.recovery.specs.Recover.{recover_of, scratch_after, RecoverMeets}
 use Rattle.recovery.proofs.Laws.RecoverPlan.{recover_carries, carries_recover}
@@ -42,12 +39,16 @@ use Rattle.restore.proofs.Laws.RehearsalHit.{hit_struck}
 
 -- ---- a call of its words
 
+or_check : (named : Option Call) → unwrap_or named Check ≡ call_or_check named
+or_check None = refl
+or_check (Some call) = refl
+
 pub call_here :
-    (words : List ℕ) (i : ℕ) {operation x y z flag : ℕ} {named : Operation} {call : Call} → i < call_count words → operation ≡ get_or words (5 * i) 0
+    (words : List ℕ) (i : ℕ) {operation x y z flag : ℕ} {named : Option Call} {call : Call} → i < call_count words → operation ≡ get_or words (5 * i) 0
     → x ≡ get_or words (5 * i + 1) 0 → y ≡ get_or words (5 * i + 2) 0 → z ≡ get_or words (5 * i + 3) 0 → flag ≡ get_or words (5 * i + 4) 0
-    → named ≡ call_by operation x y z flag → call ≡ call_or_check named → call ≡ call_at words i
+    → named ≡ call_by operation x y z flag → call ≡ unwrap_or named Check → call ≡ call_at words i
 unfolding call_at
-call_here words i h a b c d e f k = k ∙ rw (f, lt-ltb i (call_count words) h, a, b, c, d, e) refl
+call_here words i {named = named} h a b c d e f k = k ∙ or_check named ∙ rw (f, lt-ltb i (call_count words) h, a, b, c, d, e) refl
 
 pub call_past : (words : List ℕ) (i : ℕ) → call_count words ≤ i → Check ≡ call_at words i
 unfolding call_at
@@ -93,9 +94,9 @@ module _
       same = rw (n, e, c) (ap (scratch_by (call_at words i) (plan_of (run t (steps_to words scratch i)) scratch (call_at words i))) k)
 
 pub ran_end :
-    (words t s : List ℕ) {i k : ℕ} {t₁ s₁ : List ℕ} → i ≤ k → k ≤ i → k ≡ call_count words → t₁ ≡ run t (steps_to words (length s) i)
+    (words t s : List ℕ) {i : ℕ} {t₁ s₁ : List ℕ} → i ≤ call_count words → call_count words ≤ i → t₁ ≡ run t (steps_to words (length s) i)
     → s₁ ≡ scratch_run t (steps_to words (length s) i) s → RanCalls words t t₁ s s₁
-ran_end words t s {i} a b c e f = let d : i ≡ call_count words = omega arith in record { table = rw d at e; scratch = rw d at f }
+ran_end words t s {i} a b e f = let d : i ≡ call_count words = omega arith in record { table = rw d at e; scratch = rw d at f }
 
 -- ---- the hit
 
@@ -132,35 +133,35 @@ pub hit_not_there : (g : Geometry) (n : ℕ) (words t : List ℕ) → g.nodes �
 unfolding hit_node
 hit_not_there g n words t h = rw (le-ltb n g.nodes h) refl
 
-pub hit_nobody : (lost : Lost) (words t : List ℕ) → lost ≡ Nobody → t ≡ hit_by lost words t
+pub hit_nobody : (lost : Option ℕ) (words t : List ℕ) → lost ≡ None → t ≡ hit_by lost words t
 unfolding hit_by
 hit_nobody lost words t e = rw e refl
 
-pub hit_failed : (lost : Lost) (words t : List ℕ) {n : ℕ} {c : Checked} {x : Refusal} → lost ≡ Node n → c ≡ sizes_of t → c ≡ Failed x → t ≡ hit_by lost words t
+pub hit_failed : (lost : Option ℕ) (words t : List ℕ) {n : ℕ} {c : Result Geometry Refusal} {x : Refusal} → lost ≡ Some n → c ≡ sizes_of t → c ≡ Err x → t ≡ hit_by lost words t
 unfolding hit_by hit_sized
 hit_failed lost words t e p q = rw (e, ← p, q) refl
 
 pub hit_passed :
-    (lost : Lost) (words t : List ℕ) {n : ℕ} {c : Checked} {g : Geometry} {t₁ : List ℕ} → lost ≡ Node n → c ≡ sizes_of t → c ≡ Passed g
+    (lost : Option ℕ) (words t : List ℕ) {n : ℕ} {c : Result Geometry Refusal} {g : Geometry} {t₁ : List ℕ} → lost ≡ Some n → c ≡ sizes_of t → c ≡ Ok g
     → t₁ ≡ hit_node g n words t → t₁ ≡ hit_by lost words t
 unfolding hit_by hit_sized
 hit_passed lost words t e p q h = rw (e, ← p, q) h
 
 pub struck_is :
-    (lost : Lost) (words : List ℕ) {call : Call} {limit : ℕ} {t t₁ t₂ s s₁ : List ℕ} {r : Answer} → CarriedOut call limit t t₁ s s₁ r
+    (lost : Option ℕ) (words : List ℕ) {call : Call} {limit : ℕ} {t t₁ t₂ s s₁ : List ℕ} {r : Answer} → CarriedOut call limit t t₁ s s₁ r
     → t₂ ≡ hit_by lost words t₁ → Struck call limit lost words t t₂ s s₁
 struck_is lost words o e = record { table = e ∙ ap (hit_by lost words) o.meets.table; scratch = o.scratch }
 
 -- ---- the recoveries that are broken off
 
-pub broken_none : (lost : Lost) (scratch : ℕ) (limits t : List ℕ) → broken_at lost scratch (drop 0 limits) t ≡ broken_at lost scratch limits t
+pub broken_none : (lost : Option ℕ) (scratch : ℕ) (limits t : List ℕ) → broken_at lost scratch (drop 0 limits) t ≡ broken_at lost scratch limits t
 broken_none lost scratch limits t = refl
 
-pub scratch_whole : (lost : Lost) (scratch : ℕ) (limits t s : List ℕ) → scratch_broken_at lost scratch (drop 0 limits) t s ≡ scratch_broken_at lost scratch limits t s
+pub scratch_whole : (lost : Option ℕ) (scratch : ℕ) (limits t s : List ℕ) → scratch_broken_at lost scratch (drop 0 limits) t s ≡ scratch_broken_at lost scratch limits t s
 scratch_whole lost scratch limits t s = refl
 
 module _
-    (lost : Lost) (limits t : List ℕ) (i : ℕ) {scratch limit : ℕ} {t₁ t₂ s s₂ : List ℕ} {r : Answer} (h : i < length limits) (n : length s ≡ scratch)
+    (lost : Option ℕ) (limits t : List ℕ) (i : ℕ) {scratch limit : ℕ} {t₁ t₂ s s₂ : List ℕ} {r : Answer} (h : i < length limits) (n : length s ≡ scratch)
     (l : limit ≡ get_or limits i 0) (o : RecoverMeets (recover_of t₁ lost (length s)) limit t₁ t₂ s s₂ r) where
   pub broken_next :
       broken_at lost scratch (drop i limits) t₁ ≡ broken_at lost scratch limits t → broken_at lost scratch (drop (i + 1) limits) t₂ ≡ broken_at lost scratch limits t
@@ -174,7 +175,7 @@ module _
   scratch_broken_lem s₀ e = rw (add-one, o.meets.table, o.scratch, l, n) (rw (drop-cons limits i 0 h) at e)
 
 pub broken_end :
-    (lost : Lost) (limits t s : List ℕ) {i : ℕ} {t₁ s₁ : List ℕ} → i ≤ length limits → length limits ≤ i
+    (lost : Option ℕ) (limits t s : List ℕ) {i : ℕ} {t₁ s₁ : List ℕ} → i ≤ length limits → length limits ≤ i
     → broken_at lost (length s) (drop i limits) t₁ ≡ broken_at lost (length s) limits t
     → scratch_broken_at lost (length s) (drop i limits) t₁ s₁ ≡ scratch_broken_at lost (length s) limits t s → BrokenOff lost limits t t₁ s s₁
 unfolding broken_off scratch_broken attempts_at
@@ -183,7 +184,7 @@ broken_end lost limits t s {i} h k e f =
 
 -- whatever is known of the scratch
 attempts_same :
-    (lost : Lost) (scratch : ℕ) {m n : ℕ} (h : m ≤ scratch) (k : n ≤ scratch) (limits t : List ℕ)
+    (lost : Option ℕ) (scratch : ℕ) {m n : ℕ} (h : m ≤ scratch) (k : n ≤ scratch) (limits t : List ℕ)
     → broken_off lost (attempts_at scratch h limits) t ≡ broken_off lost (attempts_at scratch k limits) t
 unfolding broken_off attempts_at
 attempts_same lost scratch h k [] t = refl
@@ -191,7 +192,7 @@ attempts_same lost scratch h k (l ∷ ls) t = attempts_same lost scratch h k ls 
 
 -- ---- the answer of a whole recovery
 
-module _ (t : List ℕ) (lost : Lost) (scratch : ℕ) where
+module _ (t : List ℕ) (lost : Option ℕ) (scratch : ℕ) where
   done_by : (q : Plan) → recover_of t lost scratch ≡ q → accepted q ≡ true → answer_of q (store_count q) ≡ Done 0 (store_count q)
   done_by (refuse x) e h = absurd (no_both h refl)
   done_by nothing_left e h = absurd (no_both h refl)

@@ -1,4 +1,5 @@
 -- A run of whole calls as a history; and a run up to its last finished commit or formatting, where the values are those saved.
+use Rattle.std.specs.Prelude.{Ok, Option}
 use Prim.Native.Nat.{ℕ}
 use mathlib.Core.Path.{◌≡◌, refl, sym, ◌∙◌}
 use mathlib.Core.Bool.{Bool, true, false, not, ◌&&◌}
@@ -6,10 +7,8 @@ use mathlib.Core.List.{List, [], ◌∷◌, ◌++◌}
 use Rattle.counting.proofs.Laws.Tests.{by_cases, no_both, either, neither}
 use Rattle.table.specs.View.{view}
 use Rattle.table.specs.Answers.{Plan, refuse, nothing_left, carry}
-use Rattle.entries.specs.declared.check.Checked.TheVariants.{Passed}
 use Rattle.entries.proofs.Laws.CheckFacts.{Shape}
 use Rattle.homes.proofs.Laws.SoundKept.{shape_after}
-use Rattle.survivors.specs.declared.lost.Lost.{Lost}
 use Rattle.restore.specs.declared.call.Call.{Call}
 use Rattle.restore.specs.declared.call.Call.TheVariants.{Format, Check, Stretch, Read, Write, Evict, Open, Create, Commit, Abandon, Recover}
 use Rattle.recovery.specs.Recover.{recover_stores, recover_of}
@@ -65,12 +64,12 @@ module _ (t : List ℕ) (memory : Memory) (commits : ℕ) (good : Good t memory 
   unfolding plan_of
   geometry_stays = shape_geometry (table_by t s) (geometry_in t) (go s.call no)
     where
-      recovers : (lost : Lost) (p : Plan) → p ≡ recover_of t lost s.scratch → Shape (whole_table p t) (geometry_in t)
+      recovers : (lost : Option ℕ) (p : Plan) → p ≡ recover_of t lost s.scratch → Shape (whole_table p t) (geometry_in t)
       recovers lost (refuse r) e = good_shape t memory commits good
       recovers lost nothing_left e = good_shape t memory commits good
       recovers lost (carry g x ss) e =
           let c = recover_carries t lost s.scratch (sym e) in
-          let p : Passed g ≡ Passed (geometry_in t) = sym c.passed ∙ good_sizes t memory commits good in
+          let p : Ok g ≡ Ok (geometry_in t) = sym c.passed ∙ good_sizes t memory commits good in
           let same : g ≡ geometry_in t = cc in
           let list : ss ≡ recover_stores (geometry_in t) lost (view (geometry_in t) t) = rw same at c.stores_are in
           rw (same, list) (shape_after (geometry_in t) _ t (recover_off (geometry_in t) lost (view (geometry_in t) t)) (good_shape t memory commits good))

@@ -1,4 +1,5 @@
 -- What a table has before a strike, so that its survivors are ready, whichever node is lost: two recovery copies of each item on two live nodes.
+use Rattle.std.specs.Prelude.{Option}
 use Prim.Native.Nat.{ℕ, ◌≤◌, ◌<◌}
 use mathlib.Core.Path.{◌≡◌, sym, ap, ◌∙◌}
 use mathlib.Core.Logic.{◌⊎◌, inl, inr, ◌≢◌}
@@ -9,7 +10,6 @@ use Rattle.table.specs.View.{View, live}
 use Rattle.table.specs.Copies.{copy_number, copy_value, back_copy, forward_copy}
 use Rattle.entries.specs.Frames.{sets_of, set_frames, used}
 use Rattle.homes.proofs.Laws.Kept.{Live, live_test, test_live}
-use Rattle.survivors.specs.declared.lost.Lost.{Lost}
 use Rattle.survivors.specs.Survivors.{survivors, largest_number}
 use Rattle.recovery.specs.Sides.{copy_on}
 use Rattle.survivors.specs.Direction.{forward_in}
@@ -41,7 +41,7 @@ pub record Chosen (g : Geometry) (number : ℕ) (forward : Bool) (w : View) : Ty
 
 -- ---- whichever node is lost
 
-module _ (g : Geometry) (saved : ℕ → ℕ) (forward : Bool) (u : View) (stands : Standing g saved forward u) (lost : Lost) where
+module _ (g : Geometry) (saved : ℕ → ℕ) (forward : Bool) (u : View) (stands : Standing g saved forward u) (lost : Option ℕ) where
   -- a copy survives
   pub copy_survives : (b : ℕ) → b < g.items → (n : ℕ) × Holds g forward (survivors lost u) b n
   copy_survives b h =

@@ -1,5 +1,6 @@
 -- THE RESTORE of one strike: on a table related to the plain memory, unless 14's condition holds, the whole recovery is accepted, and its table is
 -- related to the plain memory that was fed the cut commit, where it counts, and the recovery.
+use Rattle.std.specs.Prelude.{None, Ok, Option, Some}
 use Prim.Native.Nat.{ℕ}
 use mathlib.Core.Path.{◌≡◌, refl, ap, ◌∙◌}
 use mathlib.Core.Bool.{Bool, true, false, not, cond}
@@ -13,12 +14,9 @@ use Rattle.table.specs.declared.geometry.Geometry.{Geometry}
 use Rattle.table.specs.declared.answers.Refusal.TheVariants.{TooFewNodes}
 use Rattle.table.specs.View.{View, view, live}
 use Rattle.table.specs.Answers.{refuse, carry}
-use Rattle.entries.specs.declared.check.Checked.TheVariants.{Passed}
 use Rattle.entries.specs.Check.{sizes_of}
 use Rattle.entries.proofs.Laws.CheckFacts.{Shape, facts_sizes}
 use Rattle.homes.proofs.Laws.Serves.{Serves}
-use Rattle.survivors.specs.declared.lost.Lost.{Lost}
-use Rattle.survivors.specs.declared.lost.Lost.TheVariants.{Nobody, Node}
 use Rattle.restore.specs.declared.call.Call.TheVariants.{Commit, Recover}
 use Rattle.survivors.specs.Survivors.{survivors, lost_outside, too_few}
 use Rattle.recovery.specs.Recover.{recover_stores}
@@ -37,9 +35,9 @@ use Rattle.restore.proofs.Laws.CutReady.{cut_ready}
 use Rattle.restore.proofs.Laws.CutShape.{cut_shape}
 use Rattle.restore.proofs.Laws.Attempts.{Attempted, attempts}
 
-inside_of : (g : Geometry) (t : List ℕ) (lost : Lost) → live_or_none (view g t) lost ≡ true → lost_outside g lost ≡ false
-inside_of g t Nobody h = refl
-inside_of g t (Node n) h = lt-leb g.nodes n (live_inside g t n h)
+inside_of : (g : Geometry) (t : List ℕ) (lost : Option ℕ) → live_or_none (view g t) lost ≡ true → lost_outside g lost ≡ false
+inside_of g t None h = refl
+inside_of g t (Some n) h = lt-leb g.nodes n (live_inside g t n h)
 
 module _ (t : List ℕ) (memory : Memory) (commits : ℕ) (good : Good t memory commits) (s : Strike t) where
   abbrev G : Geometry
@@ -87,7 +85,7 @@ module _ (t : List ℕ) (memory : Memory) (commits : ℕ) (good : Good t memory 
       attempts G (saved_in back) number s.lost inside s.broken s.struck
       (hit_shape G s.lost (cut_table t s.cut) s.struck s.hit cut_is) struck_survivors
 
-  passed : sizes_of (attempted s) ≡ Passed G
+  passed : sizes_of (attempted s) ≡ Ok G
   passed = facts_sizes (attempted s) G all_attempts.shape
 
   -- the survivors before the whole recovery, and that they are as many as after the strike

@@ -1,4 +1,5 @@
 -- "A dead node's words, mark apart, are never read": it holds.
+use Rattle.std.specs.Prelude.{Err, None, Ok, Option, Result, Some}
 use Prim.Native.Nat.{ℕ, ◌+◌, ◌<◌, ◌≤◌}
 use mathlib.Core.Path.{◌≡◌, refl, sym, ap, ◌∙◌, fun_ext}
 use mathlib.Core.Bool.{true, false, not, cond}
@@ -11,15 +12,11 @@ use borrow.Author.Tests.{eq-eqb, ne_eqb, lt-leb, ltb-true, le-ltb, leb-false}
 use Rattle.counting.proofs.Laws.Tests.{both, by_cases, no_both, and_no, neither}
 use Rattle.counting.proofs.Laws.Exists.{exists_not}
 use Rattle.table.specs.declared.geometry.Geometry.{Geometry}
-use Rattle.table.specs.declared.geometry.Made.{Made}
-use Rattle.table.specs.declared.geometry.Made.TheVariants.{Allowed, NotAllowed}
 use Rattle.table.specs.declared.answers.Refusal.TheVariants.{NoNode}
 use Rattle.table.specs.Geometry.{mark_at, entry_at, geometry_of}
 use Rattle.table.specs.View.{View, view, live, there, entry_in}
 use Rattle.table.proofs.Laws.View.{entry_same}
 use Rattle.table.specs.Answers.{refuse}
-use Rattle.entries.specs.declared.check.Checked.{Checked}
-use Rattle.entries.specs.declared.check.Checked.TheVariants.{Passed, Failed}
 use Rattle.entries.specs.Check.{made_of, length_of, sizes_of}
 use Rattle.entries.proofs.Laws.CheckFacts.{sizes_facts}
 use Rattle.entries.proofs.Laws.Unread.{over, Agrees, Alike, alike_fault}
@@ -29,8 +26,6 @@ use Rattle.homes.specs.Admission.{plan_admitted}
 use Rattle.homes.proofs.Laws.Unread.{evict_alike}
 use Rattle.calls.proofs.Laws.Unread.{read_alike, write_alike}
 use Rattle.checkpoints.proofs.Laws.Unread.{open_alike, create_alike, commit_alike, abandon_alike}
-use Rattle.survivors.specs.declared.lost.Lost.{Lost}
-use Rattle.survivors.specs.declared.lost.Lost.TheVariants.{Nobody, Node}
 use Rattle.survivors.specs.Survivors.{survivors, lost_outside}
 use Rattle.recovery.specs.Recover.{recover_admission, recover_checked, recover_of}
 use Rattle.recovery.proofs.Laws.Unread.{recover_alike}
@@ -42,6 +37,7 @@ use Rattle.restore.specs.Strike.{of_entries, of_lost}
 use Rattle.restore.specs.Unread.{of_dead, SameButDead, SameButLost, Unread}
 use Rattle.restore.proofs.Laws.Good.{shape_geometry}
 use Rattle.restore.proofs.Laws.HitReady.{mark_of_other, entry_of_other}
+use Rattle.table.specs.declared.answers.Refusal.{Refusal}
 
 -- ---- words that are no dead node's
 
@@ -88,21 +84,21 @@ module _ (g : Geometry) (t t' : List ℕ) where
 -- ---- the sizes: word 0 and the length
 
 module _ (t t' : List ℕ) (size : length t' ≡ length t) where
-  length_same : (m : Made) → length_of t' m ≡ length_of t m
+  length_same : (m : Option Geometry) → length_of t' m ≡ length_of t m
   unfolding length_of
-  length_same NotAllowed = refl
-  length_same (Allowed g) = rw size refl
+  length_same None = refl
+  length_same (Some g) = rw size refl
 
   sizes_same : get_or t' 0 0 ≡ get_or t 0 0 → sizes_of t' ≡ sizes_of t
   unfolding sizes_of
   sizes_same word = rw (size, word, length_same (made_of t)) refl
 
-  format_same : (m : Made) → format_made t' m ≡ format_made t m
+  format_same : (m : Option Geometry) → format_made t' m ≡ format_made t m
   unfolding format_made
-  format_same NotAllowed = refl
-  format_same (Allowed g) = rw size refl
+  format_same None = refl
+  format_same (Some g) = rw size refl
 
-sizes_geometry : (t : List ℕ) (g : Geometry) → sizes_of t ≡ Passed g → geometry_in t ≡ g
+sizes_geometry : (t : List ℕ) (g : Geometry) → sizes_of t ≡ Ok g → geometry_in t ≡ g
 sizes_geometry t g h = shape_geometry t g (sizes_facts t g h)
 
 -- ---- every call
@@ -130,14 +126,14 @@ dead_alike t t' s = record {
 
 -- ---- Recover
 
-zero_not_lost : (g : Geometry) (lost : Lost) → of_lost g lost 0 ≡ false
-zero_not_lost g Nobody = refl
-zero_not_lost g (Node n) = rw (ne_eqb 0 (mark_at n) (λ e. omega arith), lt-leb (entry_at g n 0) 0 (omega arith)) refl
+zero_not_lost : (g : Geometry) (lost : Option ℕ) → of_lost g lost 0 ≡ false
+zero_not_lost g None = refl
+zero_not_lost g (Some n) = rw (ne_eqb 0 (mark_at n) (λ e. omega arith), lt-leb (entry_at g n 0) 0 (omega arith)) refl
 
 -- a lost node that is none of the table's is refused
 outside_refused :
-    (t : List ℕ) (lost : Lost) (scratch : ℕ) (g : Geometry) → lost_outside g lost ≡ true
-    → recover_checked t lost scratch (Passed g) ≡ refuse NoNode
+    (t : List ℕ) (lost : Option ℕ) (scratch : ℕ) (g : Geometry) → lost_outside g lost ≡ true
+    → recover_checked t lost scratch (Ok g) ≡ refuse NoNode
 unfolding recover_checked recover_admission plan_admitted
 outside_refused t lost scratch g h = rw h refl
 
@@ -150,16 +146,16 @@ module _ (t t' : List ℕ) where
 
   -- of a node of the table, or of none
   lost_views :
-      (lost : Lost) → lost_outside g₀ lost ≡ false → SameButLost lost t t'
+      (lost : Option ℕ) → lost_outside g₀ lost ≡ false → SameButLost lost t t'
       → survivors lost (view g₀ t') ≡ over (survivors lost v₀) (view g₀ t').entry
-  lost_views Nobody o s = λ i. record { mark = marks i; entry = (view g₀ t').entry }
+  lost_views None o s = λ i. record { mark = marks i; entry = (view g₀ t').entry }
     where
       marks : (view g₀ t').mark ≡ v₀.mark
       marks = fun_ext (λ n. mark_same g₀ t t' n (λ l.
           s.rest (mark_at n) refl (low_not_dead g₀ v₀ (mark_at n) (omega arith))))
-  lost_views (Node m) o s = λ i. record { mark = marks i; entry = (view g₀ t').entry }
+  lost_views (Some m) o s = λ i. record { mark = marks i; entry = (view g₀ t').entry }
     where
-      marks : (survivors (Node m) (view g₀ t')).mark ≡ (survivors (Node m) v₀).mark
+      marks : (survivors (Some m) (view g₀ t')).mark ≡ (survivors (Some m) v₀).mark
       marks = fun_ext (λ n. elim (ℕ_discrete n m) [
         | yes e ↦ rw (eq-eqb n m e) refl
         | no e ↦ rw (ne_eqb n m e) (mark_same g₀ t t' n (λ l.
@@ -168,16 +164,16 @@ module _ (t t' : List ℕ) where
       ])
 
   lost_entries :
-      (lost : Lost) → lost_outside g₀ lost ≡ false → SameButLost lost t t'
+      (lost : Option ℕ) → lost_outside g₀ lost ≡ false → SameButLost lost t t'
       → Agrees g₀ (survivors lost v₀) (view g₀ t').entry
-  lost_entries Nobody o s = record {
+  lost_entries None o s = record {
     alive = λ n b a. entry_there g₀ t t' n b (λ hb k hk.
         s.rest (entry_at g₀ n b + k) refl (entry_not_dead g₀ v₀ n b k hb hk a));
     outside = λ n b l. entry_outside g₀ t t' n b l;
   }
-  lost_entries (Node m) o s = record { alive = alive; outside = λ n b l. entry_outside g₀ t t' n b l }
+  lost_entries (Some m) o s = record { alive = alive; outside = λ n b l. entry_outside g₀ t t' n b l }
     where
-      alive : (n b : ℕ) → live (survivors (Node m) v₀) n ≡ true → (view g₀ t').entry n b ≡ v₀.entry n b
+      alive : (n b : ℕ) → live (survivors (Some m) v₀) n ≡ true → (view g₀ t').entry n b ≡ v₀.entry n b
       alive n b a = elim (ℕ_discrete n m) [
         | yes e ↦ (let z : not (eqb (cond true 0 (v₀.mark n)) 0) ≡ true = rw (eq-eqb n m e) at a in
             absurd (no_both z refl))
@@ -187,7 +183,7 @@ module _ (t t' : List ℕ) where
       ]
 
   recover_unread :
-      (lost : Lost) → SameButLost lost t t' → (scratch : ℕ) → recover_of t' lost scratch ≡ recover_of t lost scratch
+      (lost : Option ℕ) → SameButLost lost t t' → (scratch : ℕ) → recover_of t' lost scratch ≡ recover_of t lost scratch
   unfolding recover_checked recover_of
   recover_unread lost s scratch = by_cases (lost_outside g₀ lost) out inside
     where
@@ -201,17 +197,17 @@ module _ (t t' : List ℕ) where
         entries = λ g h. rw (← sizes_geometry t g h) (lost_entries lost o s);
       })
 
-      checked : lost_outside g₀ lost ≡ true → (c : Checked) → sizes_of t ≡ c
+      checked : lost_outside g₀ lost ≡ true → (c : Result Geometry Refusal) → sizes_of t ≡ c
           → recover_checked t' lost scratch c ≡ recover_checked t lost scratch c
-      checked o (Failed x) h = refl
-      checked o (Passed g) h =
+      checked o (Err x) h = refl
+      checked o (Ok g) h =
           let q : lost_outside g lost ≡ true = rw (sizes_geometry t g h) at o in
           outside_refused t' lost scratch g q ∙ sym (outside_refused t lost scratch g q)
 
       out : lost_outside g₀ lost ≡ true → recover_of t' lost scratch ≡ recover_of t lost scratch
       out o = ap (recover_checked t' lost scratch) sizes ∙ checked o (sizes_of t) refl
 
-dead_lost : (lost : Lost) (t t' : List ℕ) → SameButDead t t' → SameButLost lost t t'
+dead_lost : (lost : Option ℕ) (t t' : List ℕ) → SameButDead t t' → SameButLost lost t t'
 dead_lost lost t t' s = record { size = s.size; rest = λ i _ h. s.rest i h }
 
 -- ---- THE THEOREM

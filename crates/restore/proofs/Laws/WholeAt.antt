@@ -1,4 +1,5 @@
 -- No list of stores reaches 2^16, whatever the call and the table: so a limit of 2^16 − 1 or more is the whole call.
+use Rattle.std.specs.Prelude.{Option}
 use Prim.Native.Nat.{ℕ, ◌+◌, ◌*◌, ◌^◌, ◌≤◌, ◌<◌, min}
 use mathlib.Core.Path.{◌≡◌, refl}
 use mathlib.Core.List.{List, []}
@@ -15,8 +16,7 @@ use Rattle.table.proofs.Laws.Answers.{refused_not}
 use Rattle.entries.proofs.Laws.CheckFacts.{sizes_facts, accepted_facts}
 use Rattle.layout.specs.Format.{format_of}
 use Rattle.layout.proofs.Laws.Format.{format_accepted}
-use Rattle.homes.specs.declared.admission.Admission.{Admission}
-use Rattle.homes.specs.Admission.{plan_by}
+use Rattle.homes.specs.Admission.{Admission, plan_by}
 use Rattle.homes.proofs.Laws.Plans.{plan_acted, acted_carried}
 use Rattle.calls.specs.Read.{read_admission, read_value, read_stores}
 use Rattle.calls.specs.Write.{write_admission, write_stores}
@@ -26,7 +26,6 @@ use Rattle.checkpoints.specs.Create.{no_partner, create_stores, create_plan, cre
 use Rattle.checkpoints.specs.Commit.{commit_admission, commit_stores, abandon_stores}
 use Rattle.entries.specs.Dirty.{owner_of, dirty_item, none_dirty}
 use Rattle.checkpoints.specs.Checkpoint.{open_admission}
-use Rattle.survivors.specs.declared.lost.Lost.{Lost}
 use Rattle.restore.specs.declared.call.Call.{Call}
 use Rattle.restore.specs.declared.call.Call.TheVariants.{Format, Check, Stretch, Read, Write, Evict, Open, Create, Commit, Abandon, Recover}
 use Rattle.recovery.specs.Recover.{recover_of}
@@ -92,7 +91,7 @@ none_short e = rw e (omega arith)
 
 -- ---- Recover
 
-recover_short : (t : List ℕ) (lost : Lost) (scratch : ℕ) {g : Geometry} {x : ℕ} {ss : List Store} → recover_of t lost scratch ≡ carry g x ss → length ss < 2 ^ 16
+recover_short : (t : List ℕ) (lost : Option ℕ) (scratch : ℕ) {g : Geometry} {x : ℕ} {ss : List Store} → recover_of t lost scratch ≡ carry g x ss → length ss < 2 ^ 16
 recover_short t lost scratch {g} {x} {ss} e =
     let c = recover_carries t lost scratch e in
     let l : length ss ≤ most g = rw c.stores_are (omega (arith, recover_length g lost (view g t))) in

@@ -1,7 +1,6 @@
 -- The parts of a rehearsal: what each leaves in the table and the scratch.
-use Rattle.std.specs.Prelude.{ℕ, ◌≡◌, List, length}
+use Rattle.std.specs.Prelude.{ℕ, ◌≡◌, List, length, Option}
 use Rattle.table.specs.Answers.{table_of}
-use Rattle.survivors.specs.declared.lost.Lost.{Lost}
 use Rattle.restore.specs.declared.call.Call.{Call}
 use Rattle.restore.specs.Call.{plan_of, scratch_by}
 use Rattle.restore.specs.Run.{run}
@@ -13,11 +12,11 @@ pub record RanCalls (words t t' s s' : List ℕ) : Type 0 where
   pub scratch : s' ≡ scratch_run t (steps_to words (length s) (call_count words)) s
 
 -- the call that is cut, and the hit
-pub record Struck (call : Call) (limit : ℕ) (lost : Lost) (words t t' s s' : List ℕ) : Type 0 where
+pub record Struck (call : Call) (limit : ℕ) (lost : Option ℕ) (words t t' s s' : List ℕ) : Type 0 where
   pub table : t' ≡ hit_by lost words (table_of (plan_of t (length s) call) limit t)
   pub scratch : s' ≡ scratch_by call (plan_of t (length s) call) s
 
 -- the recoveries that are broken off
-pub record BrokenOff (lost : Lost) (limits t t' s s' : List ℕ) : Type 0 where
+pub record BrokenOff (lost : Option ℕ) (limits t t' s s' : List ℕ) : Type 0 where
   pub table : t' ≡ broken_at lost (length s) limits t
   pub scratch : s' ≡ scratch_broken_at lost (length s) limits t s

@@ -1,6 +1,8 @@
 -- The bytes of a line: how many there are, that the kit's digits are these, and bytes put one after the other.
-use Rattle.std.proofs.Common.{◌≡◌, ℕ, zero, suc, ◌+◌, ◌-◌, ◌*◌, ◌/◌, ◌%◌, ◌^◌, ◌<◌, ◌≤◌, ltb, List, [], ◌∷◌, ◌++◌, length, get_or, take, drop, set, sym, refl, ap, ◌∙◌, append_assoc, pow-suc, add-one, arith, length-append, length-set, take-append-drop, length-take-le, drop-drop, take-suc-set, drop-set-lt, pow-add, ltb-false, ltb-true}
-use lib.Seq.{paste, paste-zero, paste-suc, take-paste, drop-paste, length-paste, take-length}
+use Rattle.std.proofs.Common.{◌≡◌, ℕ, zero, suc, ◌+◌, ◌-◌, ◌*◌, ◌/◌, ◌%◌, ◌^◌, ◌<◌, ◌≤◌, ltb, List, [], ◌∷◌, ◌++◌, length, take, drop, set, sym, refl, ap, ◌∙◌, append_assoc, pow-suc, add-one, arith, length-append, length-set, take-append-drop, length-take-le, drop-drop, take-suc-set, drop-set-lt, pow-add, ltb-false, ltb-true}
+use Rattle.std.proofs.lemmas.Slice.{put_mid-paste}
+use borrow.Rule.Slice.PartMut.{put_mid}
+use lib.Seq.{take-paste, drop-paste, length-paste, take-length}
 use Rattle.io.specs.Counts.{IsPrefixLen}
 use Rattle.io.specs.Digits.{last_digits, IsDigitCount}
 use Rattle.counting.proofs.Laws.Tests.{by_cases}
@@ -72,27 +74,17 @@ decimal_is n r f h = digits_are 20 r n f h
 
 -- ---- bytes put at a place
 
-module _ (out : List ℕ) (at : ℕ) (bytes : List ℕ) where
-  pub put_none : out ≡ paste out at bytes 0
-  put_none = paste-zero out at bytes
-
-  pub put_next :
-      {i : ℕ} {out₁ out₂ : List ℕ} → at + length bytes ≤ length out → i < length bytes
-      → out₁ ≡ paste out at bytes i → out₂ ≡ set out₁ (at + i) (get_or bytes i 0)
-      → out₂ ≡ paste out at bytes (i + 1)
-  put_next {i} fit h e s = rw add-one (s ∙ rw e (paste-suc out at bytes i 0 (omega arith) h))
-
-  pub put_end : {i : ℕ} {out₁ : List ℕ} → at + length bytes ≤ length out → i ≤ length bytes → length bytes ≤ i
-      → out₁ ≡ paste out at bytes i → PutAt out at bytes out₁ (at + i)
-  put_end {i} {out₁} fit a b e =
-      let n : i ≡ length bytes = omega arith in
-      let whole : out₁ ≡ paste out at bytes (length bytes) = rw n at e in
-      rw (n, whole) (record {
-        end = refl;
-        start = take-paste out at bytes (length bytes) (omega arith) (omega arith) ∙ ap (λ (l : List ℕ). take at out ++ l) (take-length bytes);
-        rest = drop-paste out at bytes (length bytes) (omega arith) (omega arith);
-        size = length-paste out at bytes (length bytes) fit (omega arith);
-      })
+pub put_whole :
+    (out : List ℕ) (at : ℕ) (bytes : List ℕ) {part : List ℕ} → at + length bytes ≤ length out → part ≡ bytes
+    → PutAt out at bytes (put_mid at (at + length bytes - at) out part) (at + length bytes)
+put_whole out at bytes {part} fit same =
+    rw (put_mid-paste at (at + length bytes - at) out part bytes (length bytes) same (omega arith) refl)
+    (record {
+      end = refl;
+      start = take-paste out at bytes (length bytes) (omega arith) (omega arith) ∙ ap (λ (l : List ℕ). take at out ++ l) (take-length bytes);
+      rest = drop-paste out at bytes (length bytes) (omega arith) (omega arith);
+      size = length-paste out at bytes (length bytes) fit (omega arith);
+    })
 
 pub put_then :
     {out : List ℕ} {at : ℕ} {xs ys out₁ out₂ : List ℕ} {m r : ℕ} → PutAt out at xs out₁ m

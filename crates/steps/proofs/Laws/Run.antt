@@ -1,25 +1,26 @@
 -- Runs: the lines of bytes that follow each other, and a law for each turn of the code.
-use Rattle.std.proofs.Common.{◌≡◌, ℕ, zero, suc, ◌+◌, ◌*◌, ◌<◌, ◌≤◌, List, [], ◌∷◌, ◌++◌, length, get_or, take, drop, sym, refl, ap, ◌∙◌, append_assoc, append-nil, arith, length-append, length-drop, take-append-drop, length-take-le, take_all, drop-drop, le-ltb}
+use Rattle.std.specs.Prelude.{Option}
+use Rattle.std.proofs.Common.{◌≡◌, ℕ, zero, suc, ◌+◌, ◌*◌, ◌/◌, ◌%◌, ◌<◌, ◌≤◌, min, List, [], ◌∷◌, ◌++◌, length, get_or, take, drop, sym, refl, ap, ◌∙◌, append_assoc, append-nil, arith, length-append, length-drop, take-append-drop, length-take-le, drop-drop, le-ltb}
 use lib.ListN.{get_or-append}
 use lib.Seq.{take-append_seam, drop-append-le}
 use Rattle.table.specs.declared.answers.Numbers.{Numbers}
-use Rattle.steps.specs.declared.decode.Step.{Step}
 use Rattle.steps.specs.Steps.{record_of}
 use Rattle.steps.specs.Run.{Quay, quay_after, line_numbers, StepServed, record_count, steps_up_to, steps_in, lines_by, quay_after_all, lines_of, left_by, RecordsRun}
 use Rattle.steps.specs.Lines.{line_bytes, BytesPut}
 use Rattle.steps.specs.code.RunCode.{PutAt, StepRun, RunTo}
 use Rattle.steps.proofs.Laws.Lines.{line_short}
+use Rattle.restore.specs.declared.call.Call.{Call}
 
 -- ---- steps that follow each other
 
-pub by_then : (q : Quay) (xs ys : List Step) → lines_by q (xs ++ ys) ≡ lines_by q xs ++ lines_by (quay_after_all q xs) ys
+pub by_then : (q : Quay) (xs ys : List (Option Call)) → lines_by q (xs ++ ys) ≡ lines_by q xs ++ lines_by (quay_after_all q xs) ys
 unfolding lines_by quay_after_all
 by_then q [] ys = refl
 by_then q (x ∷ xs) ys =
     ap (λ (l : List ℕ). line_bytes q.progress.records (line_numbers q x) ++ l) (by_then (quay_after q x) xs ys)
     ∙ sym (append_assoc (line_bytes q.progress.records (line_numbers q x)) (lines_by (quay_after q x) xs) (lines_by (quay_after_all (quay_after q x) xs) ys))
 
-pub all_then : (q : Quay) (xs ys : List Step) → quay_after_all q (xs ++ ys) ≡ quay_after_all (quay_after_all q xs) ys
+pub all_then : (q : Quay) (xs ys : List (Option Call)) → quay_after_all q (xs ++ ys) ≡ quay_after_all (quay_after_all q xs) ys
 unfolding quay_after_all
 all_then q [] ys = refl
 all_then q (x ∷ xs) ys = all_then (quay_after q x) xs ys
@@ -87,13 +88,9 @@ module _ (q : Quay) (k : ℕ) (a b : List ℕ) (whole : length a ≡ 16 * k) whe
 
 -- ---- the code
 
--- a part that is all of them
-pub first_all : (bytes : List ℕ) (count : ℕ) → length bytes ≤ count → bytes ≡ take count bytes
-first_all bytes count h = sym (take_all count bytes h)
-
 -- a step served, and its line put
 pub step_run :
-    {q q' : Quay} {step : Step} {numbers : Numbers} {out : List ℕ} {at n : ℕ} (text : List ℕ) {text' : List ℕ} {out' : List ℕ} {r : ℕ} → StepServed q step q' numbers
+    {q q' : Quay} {step : Option Call} {numbers : Numbers} {out : List ℕ} {at n : ℕ} (text : List ℕ) {text' : List ℕ} {out' : List ℕ} {r : ℕ} → StepServed q step q' numbers
     → BytesPut (line_bytes q.progress.records numbers) text text' n → PutAt out at (take n text') out' r
     → StepRun q step q' out at out' r
 step_run {q} {step = step} {numbers} text {text'} s b p = record {
@@ -103,53 +100,58 @@ step_run {q} {step = step} {numbers} text {text'} s b p = record {
 
 -- ---- how far a run has come
 
+-- the count of records, as the code has it
+pub count_is : {n : ℕ} (bytes : List ℕ) → n ≡ length bytes / 16 + min 1 (length bytes % 16) → n ≡ record_count bytes
+count_is bytes e = omega (arith, e)
+
 module _ (q₀ : Quay) (bytes out₀ : List ℕ) (small : length bytes ≤ 1024) (large : 5376 ≤ length out₀) where
   pub run_none : RunTo q₀ bytes out₀ q₀ out₀ 0 0
-  run_none = record { state = refl; lines = refl; rest = refl; size = refl; whole = omega arith; within = omega arith; room = omega arith }
+  run_none = record { state = refl; lines = refl; rest = refl; size = refl; room = omega arith }
 
-  pub run_room : {q : Quay} {out : List ℕ} {at to : ℕ} → RunTo q₀ bytes out₀ q out at to → at < length bytes
+  pub run_room : {q : Quay} {out : List ℕ} {i to n : ℕ} → RunTo q₀ bytes out₀ q out i to → n ≡ record_count bytes → i < n
       → to + 84 ≤ length out
-  run_room {at = at} {to} s h = omega (arith, s.whole, s.room, s.size)
+  run_room s k h = omega (arith, s.room, s.size)
 
   pub run_next :
-      {q q' : Quay} {out out' : List ℕ} {at to r : ℕ} {step : Step} → RunTo q₀ bytes out₀ q out at to
-      → at < length bytes → step ≡ record_of (drop at bytes)
-      → StepRun q step q' out to out' r → RunTo q₀ bytes out₀ q' out' (at + 16) r
+      {q q' : Quay} {out out' : List ℕ} {i to n r : ℕ} {step : Option Call} → RunTo q₀ bytes out₀ q out i to
+      → n ≡ record_count bytes → i < n → step ≡ record_of (drop (16 * i) bytes)
+      → StepRun q step q' out to out' r → RunTo q₀ bytes out₀ q' out' (i + 1) r
   unfolding lines_by quay_after_all
-  run_next {q} {q'} {out} {out'} {at} {to} {r} {step} s h e o = record {
+  run_next {q} {q'} {out} {out'} {i} {to} {r = r} {step} s k h e o = record {
     state = rw (o.state, e) (rw next at s.state);
     lines = rw (o.line.start, o.state, e, append_assoc) (rw next at s.lines);
     rest = o.line.rest ∙ further;
     size = o.line.size ∙ s.size;
-    whole = omega (arith, s.whole);
-    within = omega arith;
     room = omega (arith, s.room, o.line.end, line_short q.progress.records (line_numbers q step));
   }
     where
-      next : steps_in (drop at bytes) ≡ record_of (drop at bytes) ∷ steps_in (drop (at + 16) bytes)
-      next = steps_next (drop at bytes) (rw length-drop (omega arith)) ∙ ap (λ (l : List ℕ). record_of (drop at bytes) ∷ steps_in l) (drop-drop 16 at bytes)
+      next : steps_in (drop (16 * i) bytes) ≡ record_of (drop (16 * i) bytes) ∷ steps_in (drop (16 * (i + 1)) bytes)
+      next =
+          let there : 16 * i + 16 ≡ 16 * (i + 1) = omega arith in
+          steps_next (drop (16 * i) bytes) (rw length-drop (omega arith))
+          ∙ ap (λ (l : List ℕ). record_of (drop (16 * i) bytes) ∷ steps_in l) (drop-drop 16 (16 * i) bytes ∙ ap (λ (k : ℕ). drop k bytes) there)
 
       further : drop r out ≡ drop r out₀
       further =
           let l = line_bytes q.progress.records (line_numbers q step) in
           rw (o.line.end, ← drop-drop (length l) to out, ← drop-drop (length l) to out₀) (ap (drop (length l)) s.rest)
 
-  pub run_end : {q : Quay} {out : List ℕ} {at to : ℕ} → RunTo q₀ bytes out₀ q out at to → length bytes ≤ at
+  pub run_end : {q : Quay} {out : List ℕ} {i to n : ℕ} → RunTo q₀ bytes out₀ q out i to → n ≡ record_count bytes → i ≤ n → n ≤ i
       → RecordsRun q₀ bytes q out₀ out to
   unfolding lines_by quay_after_all
-  run_end {q} {out} {at} {to} s h = record {
+  run_end {q} {out} {i} {to} s k le ge = record {
     state = rw none at s.state;
     lines = record { buffer = sym (take-append-drop to out) ∙ rw (s.rest, all, n) refl; count = n };
   }
     where
-      none : steps_in (drop at bytes) ≡ []
-      none = steps_none (drop at bytes) (rw length-drop (omega arith))
+      none : steps_in (drop (16 * i) bytes) ≡ []
+      none = steps_none (drop (16 * i) bytes) (rw length-drop (omega arith))
 
       all : take to out ≡ lines_of q₀ bytes
       all = sym (append-nil (take to out)) ∙ rw none at s.lines
 
       n : to ≡ length (lines_of q₀ bytes)
-      n = sym (length-take-le to out (omega (arith, s.size, s.whole, s.within, s.room))) ∙ ap length all
+      n = sym (length-take-le to out (omega (arith, s.size, s.room))) ∙ ap length all
 
 -- ---- what is written, chunk after chunk
 

@@ -1,4 +1,5 @@
 -- A law for each way of the code that serves a step.
+use Rattle.std.specs.Prelude.{None, Option, Some}
 use Rattle.std.proofs.Common.{◌≡◌, ℕ, Bool, true, false, cond, ◌&&◌, ◌||◌, List, [], ◌∷◌, ◌++◌, length, refl, ap, ◌∙◌, arith}
 use Rattle.table.specs.declared.answers.Answer.{Answer}
 use Rattle.table.specs.declared.answers.Answer.TheVariants.{Done}
@@ -8,8 +9,6 @@ use Rattle.restore.specs.declared.call.Call.{Call}
 use Rattle.restore.specs.Call.{plan_of, accepted, CarriedOut}
 use Rattle.restore.specs.Run.{is_format, store_count}
 use Rattle.restore.proofs.Laws.WholeAt.{whole_at, whole_count}
-use Rattle.steps.specs.declared.decode.Step.TheVariants.{Asked, Malformed}
-use Rattle.steps.specs.declared.decode.Step.{Step}
 use Rattle.steps.specs.declared.serve.Progress.{Progress}
 use Rattle.steps.specs.Run.{Quay, quay, counted, StepServed}
 use Rattle.steps.specs.code.ServingCode.{is_done, CarriedLent}
@@ -69,7 +68,7 @@ module _ (p : Progress) (call : Call) (t s : List ℕ) {t' s' : List ℕ} where
       {format done : Bool} {answer : Answer} {numbers : Numbers} {p' : Progress} → format ≡ is_format call
       → CarriedLent (p.formatted || format) call t t' s s' answer → done ≡ is_done answer → numbers ≡ numbers_of answer
       → p' ≡ counted p (p.formatted || (format && done))
-      → StepServed (quay t s p) (Asked call) (quay t' s' p') numbers
+      → StepServed (quay t s p) (Some call) (quay t' s' p') numbers
   call_served f o d n c =
       let plan = plan_of (cond (p.formatted || is_format call) t []) (length s) call in
       let lent = rw f at o in
@@ -81,11 +80,11 @@ module _ (p : Progress) (call : Call) (t s : List ℕ) {t' s' : List ℕ} where
       }
 
 pub step_served :
-    {q q' : Quay} {step : Step} {call : Call} {numbers : Numbers} → step ≡ Asked call
-    → StepServed q (Asked call) q' numbers → StepServed q step q' numbers
+    {q q' : Quay} {step : Option Call} {call : Call} {numbers : Numbers} → step ≡ Some call
+    → StepServed q (Some call) q' numbers → StepServed q step q' numbers
 step_served e o = rw e o
 
 pub malformed_served :
-    {step : Step} (t s : List ℕ) (p : Progress) {p' : Progress} → step ≡ Malformed → p' ≡ counted p p.formatted
+    {step : Option Call} (t s : List ℕ) (p : Progress) {p' : Progress} → step ≡ None → p' ≡ counted p p.formatted
     → StepServed (quay t s p) step (quay t s p') malformed_numbers
 malformed_served t s p e c = rw (e, c) (record { state = refl; line = refl })

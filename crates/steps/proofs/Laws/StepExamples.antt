@@ -1,9 +1,8 @@
 -- Document 01's records, malformed ones, and lines, computed by the definitions.
+use Rattle.std.specs.Prelude.{None, Some}
 use Rattle.std.proofs.Common.{◌≡◌, ℕ, ◌+◌, ◌-◌, ◌*◌, ◌^◌, [], ◌∷◌, ◌++◌, map, replicate, refl}
 use Rattle.homes.specs.declared.places.Place.TheVariants.{Current, Kept}
-use Rattle.survivors.specs.declared.lost.Lost.TheVariants.{Nobody, Node}
 use Rattle.restore.specs.declared.call.Call.TheVariants.{Format, Read, Write, Evict, Open, Create, Commit, Abandon, Recover}
-use Rattle.steps.specs.declared.decode.Step.TheVariants.{Asked, Malformed}
 use Rattle.homes.specs.Places.{place_by}
 use Rattle.survivors.specs.Survivors.{lost_by}
 use Rattle.restore.specs.Operations.{call_by}
@@ -33,7 +32,7 @@ pub listing :
     ∷ step_of (word 1 1 0 0) 0
     ∷ step_of (word 1 2 0 0) 0
     ∷ [])
-    ≡ map Asked
+    ≡ map Some
     (Format 3 1 2
     ∷ Write 2 0 7
     ∷ Read 0 0
@@ -41,7 +40,7 @@ pub listing :
     ∷ Create
     ∷ Commit
     ∷ Write 0 0 9
-    ∷ Recover (Node 2)
+    ∷ Recover (Some 2)
     ∷ Read 1 0
     ∷ Read 2 0
     ∷ [])
@@ -60,14 +59,14 @@ pub others :
     ∷ step_of (sizes 31 511 1023) 0
     ∷ step_of 0 0
     ∷ [])
-    ≡ map Asked
+    ≡ map Some
     (Read 15 255
     ∷ Write 15 255 (2 ^ 64 - 1)
     ∷ Evict 15 255 Current
     ∷ Evict 15 255 Kept
     ∷ Abandon
-    ∷ Recover (Node 15)
-    ∷ Recover Nobody
+    ∷ Recover (Some 15)
+    ∷ Recover None
     ∷ Format 31 511 1023
     ∷ Format 0 0 0
     ∷ [])
@@ -99,17 +98,17 @@ pub malformed :
     ∷ step_of (word 9 0 0 0) 0
     ∷ step_of (word 15 0 0 0) 0
     ∷ [])
-    ≡ replicate 20 Malformed
+    ≡ replicate 20 None
 unfolding place_by lost_by call_by unused_zero format_step call_step step_of
 malformed = refl
 
 -- "write node 2 item 0 value 7" as bytes, with a byte of the next record, and cut off
-pub bytes_of_a_write : record_of (34 ∷ replicate 14 0 ++ (7 ∷ 255 ∷ [])) ≡ Asked (Write 2 0 7)
+pub bytes_of_a_write : record_of (34 ∷ replicate 14 0 ++ (7 ∷ 255 ∷ [])) ≡ Some (Write 2 0 7)
 unfolding place_by lost_by call_by unused_zero format_step call_step step_of record_of
 bytes_of_a_write = refl
 
 -- "a cut-off last record"
-pub cut_off : record_of (34 ∷ replicate 14 0) ≡ Malformed
+pub cut_off : record_of (34 ∷ replicate 14 0) ≡ None
 unfolding record_of
 cut_off = refl
 
@@ -131,6 +130,6 @@ unfolding digits_in
 longest = refl
 
 -- two records and a cut-off one: three steps
-pub three_steps : steps_in (34 ∷ replicate 15 0 ++ (64 ∷ replicate 15 0) ++ (64 ∷ [])) ≡ Asked (Write 2 0 0) ∷ Asked Open ∷ Malformed ∷ []
+pub three_steps : steps_in (34 ∷ replicate 15 0 ++ (64 ∷ replicate 15 0) ++ (64 ∷ [])) ≡ Some (Write 2 0 0) ∷ Some Open ∷ None ∷ []
 unfolding place_by lost_by call_by unused_zero format_step call_step step_of record_of steps_up_to
 three_steps = refl

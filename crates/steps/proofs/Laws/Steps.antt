@@ -1,4 +1,5 @@
 -- The step of each operation, written out.
+use Rattle.std.specs.Prelude.{None, Option, Some}
 use Rattle.std.proofs.Common.{◌≡◌, ℕ, ◌<◌, Bool, true, false, cond, ◌&&◌, ◌||◌, eqb, refl, ap, arith, ne_eqb}
 use mathlib.Core.Bool.{and_comm}
 use Rattle.table.specs.Words.{size_form, nodes_of, items_of, frames_of}
@@ -7,8 +8,6 @@ use Rattle.survivors.specs.Survivors.{lost_by}
 use Rattle.restore.specs.declared.call.Call.{Call}
 use Rattle.restore.specs.declared.call.Call.TheVariants.{Format, Read, Write, Evict, Open, Create, Commit, Abandon, Recover}
 use Rattle.restore.specs.Operations.{call_by}
-use Rattle.steps.specs.declared.decode.Step.{Step}
-use Rattle.steps.specs.declared.decode.Step.TheVariants.{Asked, Malformed}
 use Rattle.steps.specs.Steps.{operation_of, node_of, item_of, place_of, rest_of, unused_zero, format_step, call_step, step_of}
 
 and_swap : (a b c : Bool) → (a && (b && c)) ≡ (b && (a && c))
@@ -18,8 +17,8 @@ and_swap false true c = refl
 and_swap false false c = refl
 
 -- a call where a test holds
-abbrev asked : Bool → Call → Step
-asked test call = cond test (Asked call) Malformed
+abbrev asked : Bool → Call → Option Call
+asked test call = cond test (Some call) None
 
 module _ (f s : ℕ) where
   abbrev operation : ℕ
@@ -87,7 +86,7 @@ module _ (f s : ℕ) where
       rw e (ap (λ t. asked t (Recover (lost_by place node))) (and_swap (eqb rest 0) (eqb item 0) (eqb s 0 && (eqb place 0 || eqb node 0))))
 
   -- "any other operation": a record's has 4 bits
-  pub other_step : 8 < operation → operation < 16 → step_of f s ≡ Malformed
+  pub other_step : 8 < operation → operation < 16 → step_of f s ≡ None
   unfolding step_of call_step call_by
   other_step h k =
       let o = operation in
@@ -106,6 +105,6 @@ module _ (f s : ℕ) where
       )
       (same_both (eqb rest 0 && unused_zero o node item place s))
     where
-      same_both : (t : Bool) → cond t Malformed Malformed ≡ Malformed
+      same_both : (t : Bool) → cond {A = Option Call} t None None ≡ None
       same_both true = refl
       same_both false = refl

@@ -1,38 +1,21 @@
 -- The ways of the code that stores a recovery's marks: a law for each, over what the code has read.
-use Prim.Native.Nat.{ℕ, ◌+◌, ◌≤◌, ◌<◌, max}
-use mathlib.Core.Path.{◌≡◌, refl, ap, ◌∙◌}
+use Rattle.std.specs.Prelude.{None, Option, Some}
+use Prim.Native.Nat.{ℕ, ◌+◌, ◌<◌}
+use mathlib.Core.Path.{◌≡◌, ap}
 use mathlib.Core.Logic.{◌≢◌}
 use mathlib.Core.Bool.{Bool, true, false, cond}
 use mathlib.Core.List.{List, [], ◌∷◌}
 use native.Mathlib.Omega.{arith}
-use native.Mathlib.Numerals.{add-one}
 use lib.Dec.{ltb, leb}
 use borrow.Author.Tests.{leb-false}
 use Rattle.table.specs.declared.geometry.Geometry.{Geometry}
 use Rattle.table.specs.Geometry.{mark_at}
-use Rattle.table.specs.Words.{number_of, mark_word}
+use Rattle.table.specs.Words.{mark_word}
 use Rattle.table.specs.Stores.{Stored, mark_store, address_of, runs}
 use Rattle.table.proofs.Laws.Stores.{All, none, more, all_runs, after_off, loop-turns, stored_none}
 use Rattle.table.specs.View.{View, view, live, mark_to, marks_to}
-use Rattle.survivors.specs.declared.lost.Lost.{Lost}
-use Rattle.survivors.specs.declared.lost.Lost.TheVariants.{Nobody, Node}
-use Rattle.survivors.specs.Survivors.{lost_stores, survivors, lost_outside, largest, largest_number, closing_stores}
+use Rattle.survivors.specs.Survivors.{lost_stores, survivors, lost_outside, largest_number, closing_stores}
 use Rattle.survivors.proofs.Laws.SurvivorsCode.{survivor_marks}
-
--- ---- the largest number
-
-pub largest_none : (f : ℕ → ℕ) → 0 ≡ largest f 0
-unfolding largest
-largest_none f = refl
-
-pub largest_next : (f : ℕ → ℕ) (n : ℕ) {a b r : ℕ} → a ≡ largest f n → b ≡ f n → r ≡ max a b → r ≡ largest f (n + 1)
-unfolding largest
-largest_next f n h e q = rw (add-one, ← h, ← e) q
-
-pub largest_ends :
-    (g : Geometry) (w : View) (n : ℕ) {r : ℕ} → n ≤ g.nodes → g.nodes ≤ n → r ≡ largest (λ k. number_of (w.mark k)) n → r ≡ largest_number g w
-unfolding largest_number
-largest_ends g w n h k e = e ∙ ap (λ m. largest (λ k. number_of (w.mark k)) m) (omega arith)
 
 -- ---- the pass over the survivors' marks: a turn finds its mark as it was, whatever the limit
 
@@ -49,7 +32,7 @@ marks_off g w f k {left} {t = t} s =
     go i l false = none
 
 pub survivor_mark_turn :
-    (g : Geometry) (lost : Lost) (word k : ℕ) {left left₁ left₂ : ℕ} {t t₁ t₂ : List ℕ}
+    (g : Geometry) (lost : Option ℕ) (word k : ℕ) {left left₁ left₂ : ℕ} {t t₁ t₂ : List ℕ}
     → Stored g left (runs (mark_to (survivors lost (view g t)) (λ x. word)) k) t t₁ left₁
     → Stored g left₁ (mark_to (survivors lost (view g t₁)) (λ x. word) k) t₁ t₂ left₂
     → Stored g left (runs (mark_to (survivors lost (view g t)) (λ x. word)) (k + 1)) t t₂ left₂
@@ -67,13 +50,8 @@ closing_stored g w e q s = rw (← e, ← q) s
 
 -- ---- the lost mark
 
-pub lost_within : (g : Geometry) (lost : Lost) {n : ℕ} → lost_outside g lost ≡ false → lost ≡ Node n → n < g.nodes
+pub lost_within : (g : Geometry) (lost : Option ℕ) {n : ℕ} → lost_outside g lost ≡ false → lost ≡ Some n → n < g.nodes
 lost_within g lost {n} h e = let k : leb g.nodes n ≡ false = rw e at h in omega (arith, leb-false g.nodes n k)
 
-pub lost_nobody : (g : Geometry) (lost : Lost) (left : ℕ) (t : List ℕ) → lost ≡ Nobody → Stored g left (lost_stores lost) t t left
+pub lost_nobody : (g : Geometry) (lost : Option ℕ) (left : ℕ) (t : List ℕ) → lost ≡ None → Stored g left (lost_stores lost) t t left
 lost_nobody g lost left t e = rw e (stored_none g left t)
-
-pub lost_node :
-    (g : Geometry) (lost : Lost) {n left left₁ : ℕ} {t t₁ : List ℕ} → lost ≡ Node n → Stored g left (mark_store n 0 ∷ []) t t₁ left₁
-    → Stored g left (lost_stores lost) t t₁ left₁
-lost_node g lost e s = rw e s

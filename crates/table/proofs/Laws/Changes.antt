@@ -1,29 +1,13 @@
 -- The laws of `specs/Changes.antt`.
-use Prim.Native.Nat.{ℕ, ◌%◌, ◌<◌}
-use mathlib.Core.Path.{◌≡◌, refl, sym, ap, ◌∙◌}
+use Prim.Native.Nat.{ℕ, ◌<◌}
+use mathlib.Core.Path.{◌≡◌, refl}
 use mathlib.Core.Logic.{◌≢◌, ◌⊎◌, inl, inr}
-use mathlib.Core.List.{List, []}
 use native.Mathlib.Omega.{arith}
 use lib.Dec.{eqb}
-use lib.ListN.{get_or}
 use borrow.Author.Tests.{eqb-true, ne_eqb}
 use Rattle.counting.proofs.Laws.Tests.{by_cases}
-use Rattle.table.specs.declared.changes.Event.{Event}
 use Rattle.table.specs.Words.{shared_ck1, shared_ck2}
-use Rattle.table.specs.Changes.{changes, column_of, change_of, checkpoint_of}
-
--- a row of it
-pub row_at : (state k : ℕ) {row : List ℕ} → state % 8 ≡ k → get_or changes k [] ≡ row → row ≡ get_or changes (state % 8) []
-row_at state k h e = sym e ∙ ap (λ i. get_or changes i []) (sym h)
-
--- a column of a row
-pub column_at : {event told : Event} (row : List ℕ) → event ≡ told → get_or row (column_of told) 0 ≡ get_or row (column_of event) 0
-column_at row h = ap (λ e. get_or row (column_of e) 0) (sym h)
-
-pub change_at :
-    (state : ℕ) (event : Event) {row : List ℕ} {r : ℕ} → row ≡ get_or changes (state % 8) [] → r ≡ get_or row (column_of event) 0 → r ≡ change_of state event
-unfolding change_of
-change_at state event h q = q ∙ ap (λ l. get_or l (column_of event) 0) h
+use Rattle.table.specs.Changes.{checkpoint_of}
 
 -- the codes below Shared-CK have none
 pub checkpoint_none : (c : ℕ) → c < 4 → checkpoint_of c ≡ 0

@@ -1,4 +1,5 @@
 -- The laws of `specs/Geometry.antt`.
+use Rattle.std.specs.Prelude.{None, Some}
 use Prim.Native.Nat.{ℕ, ◌+◌, ◌-◌, ◌*◌, ◌/◌, ◌%◌, ◌<◌, ◌≤◌}
 use mathlib.Core.Path.{◌≡◌, refl, sym, ap, ◌∙◌}
 use mathlib.Core.Logic.{◌≢◌, ◌⊎◌, inl, inr, ⊎_elim}
@@ -10,7 +11,6 @@ use lib.Dec.{eqb, leb}
 use borrow.Author.Tests.{eqb-true, leb-true}
 use Rattle.counting.proofs.Laws.Tests.{both, either, by_cases}
 use Rattle.table.specs.declared.geometry.Geometry.{Geometry}
-use Rattle.table.specs.declared.geometry.Made.TheVariants.{Allowed, NotAllowed}
 use Rattle.table.specs.Geometry.{in_ranges, allowed, geometry_of, words_of, entry_at}
 
 -- ---- addresses
@@ -66,15 +66,15 @@ roomy n m f h = ⊎_elim
     (four_copies_lem n m f h)
 
 -- a geometry that was made is allowed, and has the numbers that were asked for
-pub made_allowed : (n m f : ℕ) (g : Geometry) → geometry_of n m f ≡ Allowed g → (allowed n m f ≡ true) × (g ≡ record { nodes = n; items = m; frames = f })
+pub made_allowed : (n m f : ℕ) (g : Geometry) → geometry_of n m f ≡ Some g → (allowed n m f ≡ true) × (g ≡ record { nodes = n; items = m; frames = f })
 unfolding geometry_of
 made_allowed n m f g e = by_cases (allowed n m f)
-    (λ y. (y, let e' : Allowed (record { nodes = n; items = m; frames = f }) ≡ Allowed g = rw y at e in cc))
-    (λ y. let e' : NotAllowed ≡ Allowed g = rw y at e in let z : ◌≡◌ {A = ℕ} 0 1 = cc in absurd (omega arith))
+    (λ y. (y, let e' : Some (record { nodes = n; items = m; frames = f }) ≡ Some g = rw y at e in cc))
+    (λ y. let e' : None ≡ Some g = rw y at e in let z : ◌≡◌ {A = ℕ} 0 1 = cc in absurd (omega arith))
 
-pub allowed_made : (n m f : ℕ) → allowed n m f ≡ true → geometry_of n m f ≡ Allowed (record { nodes = n; items = m; frames = f })
+pub allowed_made : (n m f : ℕ) → allowed n m f ≡ true → geometry_of n m f ≡ Some (record { nodes = n; items = m; frames = f })
 unfolding geometry_of
 allowed_made n m f e = rw e refl
 
-pub made_sized : (n m f : ℕ) {g : Geometry} → geometry_of n m f ≡ Allowed g → Sized g.nodes g.items g.frames
+pub made_sized : (n m f : ℕ) {g : Geometry} → geometry_of n m f ≡ Some g → Sized g.nodes g.items g.frames
 made_sized n m f {g} e = let mk = made_allowed n m f g e in rw mk.1 (sized n m f (both (in_ranges n m f) mk.0).0)

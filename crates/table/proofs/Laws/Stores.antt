@@ -12,7 +12,8 @@ use lib.ListN.{length, get_or, set, length-set, length-append}
 use lib.Seq.{set_out, set-get_or, get_or-set_other}
 use Rattle.counting.specs.Counting.{sum}
 use Rattle.table.specs.declared.geometry.Geometry.{Geometry}
-use Rattle.table.specs.Stores.{Change, state_to, value_to, kept_to, Store, entry_store, part_of, address_of, word_of, after, runs, Stored, StoredIn, written, Wrote}
+use Rattle.table.specs.Stores.{Change, state_to, value_to, kept_to, Store, entry_store, part_of, address_of, word_of, after, runs, Stored, written, Wrote}
+use Rattle.table.specs.code.Stores.{StoredIn}
 
 -- ---- the encoding: which word, and what is written
 

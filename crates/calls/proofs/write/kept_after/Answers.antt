@@ -7,6 +7,6 @@ pub returns-then-own-eq0 : goal.returns-then-own-eq0
 unfolding kept_after
 returns-then-own-eq0 c = simp (← c.current_of.ensures, ← c.checkpoint_of-own.ensures, eq-eqb _ _ c.if-own-eq0.true, ← c.kept_of.ensures)
 
-pub returns : goal.returns
+pub returns-else-own-eq0 : goal.returns-else-own-eq0
 unfolding kept_after
-returns c = simp (← c.current_of.ensures, ← c.checkpoint_of-own.ensures, ne_eqb _ _ c.if-own-eq0.false)
+returns-else-own-eq0 c = simp (← c.current_of.ensures, ← c.checkpoint_of-own.ensures, ne_eqb _ _ c.if-own-eq0.false)

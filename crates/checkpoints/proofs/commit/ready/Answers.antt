@@ -1,20 +1,23 @@
--- `ready` meets its contract: a way out for each check. Assumes nothing.
+-- `ready` meets its contract: a way of `ready_of` for each way out. Assumes nothing.
+use mathlib.Core.Path.{refl}
+use Rattle.std.proofs.lemmas.Result.{err_from_is_err_and}
 use Rattle.entries.proofs.Laws.Check.{refused_failed, sound_passed}
-use Rattle.checkpoints.proofs.Laws.CommitReady.{ready_failed, ready_turned, ready_admitted}
+use Rattle.homes.proofs.Laws.Ready.{ready_failed, ready_turned, ready_admitted}
 use Rattle.checkpoints.proofs.commit.ready.Goals as goal
 
-pub admit_commit-admission-requires : goal.admit_commit-admission-requires
-admit_commit-admission-requires c = (sound_passed _ c.survey_table-surveyed.ensures c.in-Sound.is).1
+pub returns-in_err-g : goal.returns-in_err-g
+returns-in_err-g c =
+    let e = err_from_is_err_and c.from_residual.result c.from_residual.ensures.1 in
+    rw (e.1, e.2) (ready_failed _ _ (refused_failed _ c.in_err-g.ensures refl))
 
-pub returns-in-Refused : goal.returns-in-Refused
-returns-in-Refused c = ready_failed _ (refused_failed _ c.survey_table-surveyed.ensures c.in-Refused.is)
+pub admit_commit-requires : goal.admit_commit-requires
+admit_commit-requires c = (sound_passed _ c.in_ok-g.ensures refl).1
 
-pub returns-in-Turned : goal.returns-in-Turned
-returns-in-Turned c =
-    ready_turned _ (sound_passed _ c.survey_table-surveyed.ensures c.in-Sound.is).0
-    c.admit_commit-admission.ensures c.in-Turned.is
+pub returns-in_err-admit_commit : goal.returns-in_err-admit_commit
+returns-in_err-admit_commit c =
+    let r = c.from_residual-in_err-admit_commit in
+    let e = err_from_is_err_and r.result r.ensures.1 in
+    rw (e.1, e.2) (ready_turned _ _ (sound_passed _ c.in_ok-g.ensures refl).0 c.in_err-admit_commit.ensures)
 
-pub returns-in-Admitted : goal.returns-in-Admitted
-returns-in-Admitted c =
-    ready_admitted _ (sound_passed _ c.survey_table-surveyed.ensures c.in-Sound.is).0
-    c.admit_commit-admission.ensures c.in-Admitted.is
+pub returns : goal.returns
+returns c = ready_admitted _ _ (sound_passed _ c.in_ok-g.ensures refl).0 c.in_ok-admit_commit.ensures

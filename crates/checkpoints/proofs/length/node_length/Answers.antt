@@ -3,8 +3,8 @@ use Rattle.checkpoints.proofs.Laws.CommitLength.{length_dead, length_live}
 use borrow.Author.Rules.{rules}
 use Rattle.checkpoints.proofs.length.node_length.Goals as goal
 
-pub returns-then-mark-eq0 : goal.returns-then-mark-eq0
-returns-then-mark-eq0 c = (length_dead _ _ _ c.mark_at-mark.ensures c.if-mark-eq0.true, search rules)
+pub returns-then-mark_at-eq0 : goal.returns-then-mark_at-eq0
+returns-then-mark_at-eq0 c = (length_dead _ _ _ c.mark_at.ensures c.if-mark_at-eq0.true, search rules)
 
 pub returns : goal.returns
-returns c = (length_live _ _ _ c.mark_at-mark.ensures c.if-mark-eq0.false c.row_length.ensures, search rules)
+returns c = (length_live _ _ _ c.mark_at.ensures c.if-mark_at-eq0.false c.row_length.ensures, search rules)

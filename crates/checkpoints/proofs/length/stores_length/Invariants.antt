@@ -1,4 +1,4 @@
-use Prim.Native.Nat.{◌≤◌, ◌-◌, ◌*◌}
+use Prim.Native.Nat.{◌≤◌, ◌*◌}
 use mathlib.Core.Path.{◌≡◌}
 use Rattle.counting.specs.Counting.{sum}
 use Rattle.table.specs.View.{view}
@@ -7,7 +7,4 @@ use Rattle.checkpoints.proofs.length.stores_length.Given as goal
 
 abbrev pub invariant-loop-node : goal.invariant-loop-node
 invariant-loop-node l =
-    (l.node ≤ l.g.nodes) × ((l.found ≡ sum (node_length l.g (view l.g l.table)) l.node) × (l.found ≤ l.node * 65537))
-
-abbrev pub decreases-loop-node : goal.decreases-loop-node
-decreases-loop-node l = l.g.nodes - l.node
+    ((l.found ≡ sum (node_length l.g (view l.g l.table)) l.node) × (l.found ≤ l.node * 65537))

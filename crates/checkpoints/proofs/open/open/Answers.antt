@@ -1,18 +1,17 @@
--- `open` meets its contract: a plan for each way out. Assumes nothing.
-use mathlib.Core.Path.{sym, ◌∙◌}
-use Rattle.table.proofs.Laws.Answers.{meets_refused, meets_done}
-use Rattle.homes.proofs.Laws.Plans.{plan_failed, plan_turned, plan_admitted_lem}
+-- `open` meets its contract: a refusal, or all its stores. Assumes nothing.
+use mathlib.Core.Path.{sym}
+use borrow.Author.Rules.{rules}
+use Rattle.table.proofs.Laws.Answers.{meets_refused}
+use Rattle.table.proofs.Laws.Made.{meets_made}
+use Rattle.homes.proofs.Laws.Ready.{ready_tells, plan_refused, plan_ready}
 use Rattle.checkpoints.proofs.Laws.ClosingCode.{passed_agreed}
 use Rattle.checkpoints.proofs.open.open.Goals as goal
 
-pub open_stores-left-requires : goal.open_stores-left-requires
-open_stores-left-requires c = passed_agreed _ _ (sym c.check_table-checked.ensures ∙ c.in-Passed.is)
+pub open_stores-requires : goal.open_stores-requires
+open_stores-requires c = passed_agreed _ _ (sym (ready_tells _ _ c.in-Ok.ensures).passed)
 
-pub returns-in-Failed : goal.returns-in-Failed
-returns-in-Failed c = meets_refused _ _ (plan_failed _ _ _ c.check_table-checked.ensures c.in-Failed.is)
+pub returns-in-Err : goal.returns-in-Err
+returns-in-Err c = meets_refused _ _ (plan_refused _ _ _ c.in-Err.ensures)
 
-pub returns-in-Turned : goal.returns-in-Turned
-returns-in-Turned c = meets_refused _ _ (plan_turned _ _ _ c.check_table-checked.ensures c.in-Passed.is c.admit_start-admission.ensures c.in-Turned.is)
-
-pub returns-in-Admitted : goal.returns-in-Admitted
-returns-in-Admitted c = meets_done _ (plan_admitted_lem _ _ _ c.check_table-checked.ensures c.in-Passed.is c.admit_start-admission.ensures c.in-Admitted.is) c.open_stores-left.ensures
+pub returns-in-Ok : goal.returns-in-Ok
+returns-in-Ok c = meets_made (plan_ready _ _ _ c.in-Ok.ensures) c.open_stores.ensures (search rules)

@@ -1,30 +1,23 @@
--- `survey_table` meets its contract. Assumes nothing.
-use mathlib.Core.Path.{sym, ◌∙◌}
-use native.Mathlib.Omega.{arith}
-use Rattle.entries.proofs.Laws.SurveyDirty.{dirty_within}
+-- `survey_table` meets its contract: the sizes, and then the survey. Assumes nothing.
+use mathlib.Core.Path.{sym}
+use Rattle.std.proofs.lemmas.Result.{err_from_is_err_and}
 use Rattle.entries.proofs.Laws.CheckFacts.{sizes_surveyable}
-use Rattle.entries.proofs.Laws.Check.{fault_failed, fault_sound, fault_unsound, surveyed_failed, surveyed_passed}
+use Rattle.entries.proofs.Laws.Check.{survey_unsized, survey_unsound, survey_sound}
 use Rattle.entries.proofs.check.survey_table.Goals as goal
 
-pub table_sound-survey-requires : goal.table_sound-survey-requires
-table_sound-survey-requires c = sizes_surveyable _ _ (sym c.sizes-sized.ensures ∙ c.in-Passed.is)
+pub returns-in_err-g : goal.returns-in_err-g
+returns-in_err-g c =
+    let p = err_from_is_err_and c.from_residual.result c.from_residual.ensures.1 in
+    rw (p.1, p.2) (survey_unsized _ c.in_err-g.ensures)
 
-pub overflow_cast-item : goal.overflow_cast-item
-overflow_cast-item c =
-    let f = c.table_sound-survey.ensures in
-    let k = sizes_surveyable _ _ (sym c.sizes-sized.ensures ∙ c.in-Passed.is) in
-    omega (arith, dirty_within f (sym f.is ∙ c.if-survey.true), k.items)
+pub table_sound-requires : goal.table_sound-requires
+table_sound-requires c = sizes_surveyable _ _ (sym c.in_ok-g.ensures)
 
-pub returns-then-survey : goal.returns-then-survey
-returns-then-survey c =
-    let f = c.table_sound-survey.ensures in
-    let e = sym f.is ∙ c.if-survey.true in
-    surveyed_passed _ (fault_sound _ _ c.sizes-sized.ensures c.in-Passed.is e) (f.dirty e)
+pub returns-in_err-item : goal.returns-in_err-item
+returns-in_err-item c =
+    let p = err_from_is_err_and c.from_residual-in_err-item.result c.from_residual-in_err-item.ensures.1 in
+    let e = c.in_err-item.ensures in
+    rw (p.1, p.2) (survey_unsound _ c.in_ok-g.ensures c.table_sound.ensures e.ok_part e.value)
 
-pub returns-in-Failed : goal.returns-in-Failed
-returns-in-Failed c = surveyed_failed _ (fault_failed _ _ c.sizes-sized.ensures c.in-Failed.is)
-
-pub returns-else-survey : goal.returns-else-survey
-returns-else-survey c =
-    let f = c.table_sound-survey.ensures in
-    surveyed_failed _ (fault_unsound _ _ c.sizes-sized.ensures c.in-Passed.is (sym f.is ∙ c.if-survey.false))
+pub returns : goal.returns
+returns c = survey_sound _ c.in_ok-g.ensures c.table_sound.ensures c.in_ok-item.ensures.ok_part

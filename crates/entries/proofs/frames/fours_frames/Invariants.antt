@@ -1,11 +1,7 @@
-use Prim.Native.Nat.{ℕ, ◌+◌, ◌-◌, ◌*◌, ◌/◌, ◌≤◌}
+use Prim.Native.Nat.{◌*◌, ◌≤◌}
 use mathlib.Core.Path.{◌≡◌}
 use Rattle.entries.specs.code.Row.{row_frames}
 use Rattle.entries.proofs.frames.fours_frames.Given as goal
 
-abbrev pub invariant-loop-at : goal.invariant-loop-at
-invariant-loop-at l =
-    (k : ℕ) × ((l.at ≡ l.start + 12 * k) × ((k ≤ l.items / 4) × ((l.n ≡ row_frames l.table l.start (4 * k)) × (l.n ≤ 8 * k))))
-
-abbrev pub decreases-loop-at : goal.decreases-loop-at
-decreases-loop-at l = l.end - l.at
+abbrev pub invariant-loop-four : goal.invariant-loop-four
+invariant-loop-four l = (l.n ≡ row_frames l.table l.start (4 * l.four)) × (l.n ≤ 8 * l.four)

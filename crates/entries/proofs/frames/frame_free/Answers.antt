@@ -2,8 +2,8 @@
 use Rattle.entries.proofs.Laws.Frames.{free_told, free_counted}
 use Rattle.entries.proofs.frames.frame_free.Goals as goal
 
-pub returns-then-told : goal.returns-then-told
-returns-then-told c = free_told _ _ _ _ c.ample-ample.ensures c.state_at-state.ensures c.current_of-current.ensures c.kept_of-kept.ensures c.if-told.true
+pub returns-then-ample-half : goal.returns-then-ample-half
+returns-then-ample-half c = free_told _ _ _ _ c.ample.ensures c.state_at-state.ensures c.current_of.ensures c.kept_of.ensures c.if-ample-half.true
 
 pub returns : goal.returns
-returns c = free_counted _ _ _ c.args.item c.set_of-set.ensures c.used_in-used.ensures c.set_frames-frames.ensures
+returns c = free_counted _ _ _ c.args.item c.set_of.ensures c.used_in.ensures c.set_frames.ensures

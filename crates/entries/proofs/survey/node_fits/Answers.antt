@@ -5,7 +5,7 @@ use Rattle.entries.proofs.Laws.SurveySound.{fits_one, fits_sets}
 use Rattle.entries.proofs.survey.node_fits.Goals as goal
 
 pub returns-then-sets-eq1 : goal.returns-then-sets-eq1
-returns-then-sets-eq1 c = ap (leb _) c.set_frames-room.ensures ∙ fits_one _ _ _ _ c.requires (sym c.sets-sets.ensures ∙ c.if-sets-eq1.true)
+returns-then-sets-eq1 c = ap (leb _) c.set_frames.ensures ∙ fits_one _ _ _ _ c.requires (sym c.sets.ensures ∙ c.if-sets-eq1.true)
 
 pub returns : goal.returns
-returns c = rw (sym c.frames_fit-fit.ensures) at (fits_sets _ _ _ _ c.requires)
+returns c = rw (sym c.frames_fit.ensures) at (fits_sets _ _ _ _ c.requires)

@@ -6,10 +6,10 @@ use Rattle.entries.proofs.Laws.SurveyNoting.{entry_noted}
 use Rattle.entries.proofs.survey.note_entry.Goals as goal
 
 pub overflow_cast-state : goal.overflow_cast-state
-overflow_cast-state c = omega (arith, c.shared_slice_known-1.given c.args.at)
+overflow_cast-state c = omega (arith, c.type_inv.table c.args.at)
 
 pub weight-weight-requires : goal.weight-weight-requires
-weight-weight-requires c = omega (arith, c.shared_slice_known-1.given c.args.at)
+weight-weight-requires c = omega (arith, c.type_inv.table c.args.at)
 
 pub bounds-notes-j-5 : goal.bounds-notes-j-5
 bounds-notes-j-5 c =

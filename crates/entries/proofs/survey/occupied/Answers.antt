@@ -1,16 +1,14 @@
--- `occupied` meets its contract: the entries before the offset are gathered. Assumes nothing.
-use Prim.Native.Nat.{◌+◌, ◌*◌, ◌/◌}
+-- `occupied` meets its contract: the entries before the item are gathered. Assumes nothing.
 use native.Mathlib.Omega.{arith}
-use Rattle.entries.proofs.Laws.SurveyGather.{gathering_on, gathering_ends}
+use mathlib.Core.Path.{refl}
+use Rattle.entries.proofs.Laws.SurveyGather.{gathering_at, gathering_on, gathering_ends}
 use Rattle.entries.proofs.survey.occupied.Goals as goal
 
-pub loop-offset-init : goal.loop-offset-init
-loop-offset-init c = (4 * (c.args.items / 4), (omega arith, (omega arith, gathering_on c.gather_fours-count.ensures)))
+pub loop-item-init : goal.loop-item-init
+loop-item-init c = gathering_at (gathering_on c.gather_fours-count.ensures) (omega arith)
 
-pub loop-offset-preserved : goal.loop-offset-preserved
-loop-offset-preserved c =
-    let i = c.loop-offset.invariant in
-    (i.0 + 1, (omega arith, (omega arith, c.gather_one-count.ensures.gathers i.1.0 (omega arith) i.1.1.1)))
+pub loop-item-preserved : goal.loop-item-preserved
+loop-item-preserved c = c.gather_one-count.ensures.gathers refl (omega arith) c.loop-item.invariant
 
 pub returns : goal.returns
-returns c = let i = c.loop-offset.invariant in gathering_ends i.1.1.1 i.1.1.0 (omega arith)
+returns c = gathering_ends c.loop-item.invariant (omega arith) c.loop-item-test.false (omega arith)

@@ -8,8 +8,8 @@ returns-then-mark-eq0 c = row_dead c.requires c.mark_at-mark.ensures c.if-mark-e
 pub note_row-turn-requires : goal.note_row-turn-requires
 note_row-turn-requires c = row_ready c.requires c.mark_at-mark.ensures c.if-mark-eq0.false
 
-pub node_fits-fits-requires : goal.node_fits-fits-requires
-node_fits-fits-requires c = row_frames_lem c.requires c.mark_at-mark.ensures c.if-mark-eq0.false c.note_row-turn.ensures
+pub node_fits-requires : goal.node_fits-requires
+node_fits-requires c = row_frames_lem c.requires c.mark_at-mark.ensures c.if-mark-eq0.false c.note_row-turn.ensures
 
 pub returns : goal.returns
-returns c = row_live c.requires c.mark_at-mark.ensures c.if-mark-eq0.false c.note_row-turn.ensures c.node_fits-fits.ensures
+returns c = row_live c.requires c.mark_at-mark.ensures c.if-mark-eq0.false c.note_row-turn.ensures c.node_fits.ensures

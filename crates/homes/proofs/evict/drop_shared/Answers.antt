@@ -1,6 +1,8 @@
 -- `drop_shared` meets its contract: one store, by the state read. Assumes nothing.
-use Rattle.homes.proofs.Laws.EvictCode.{drop_read}
+use mathlib.Core.Path.{ap, sym}
+use Rattle.table.proofs.Laws.Made.{made_as}
+use Rattle.homes.specs.Evict.{source_stores}
 use Rattle.homes.proofs.evict.drop_shared.Goals as goal
 
 pub returns : goal.returns
-returns c = drop_read _ _ _ _ c.state_at-word.ensures c.leave_source.ensures
+returns c = made_as (ap (source_stores _ _ _) (sym c.state-word.ensures)) c.leave_source.ensures

@@ -5,5 +5,5 @@ use Rattle.homes.proofs.home.current_left.Goals as goal
 pub returns-then-dropped-item : goal.returns-then-dropped-item
 returns-then-dropped-item c = left_dropped _ _ _ c.if-dropped-item.true
 
-pub returns : goal.returns
-returns c = left_stays _ _ _ c.if-dropped-item.false
+pub returns-else-dropped-item : goal.returns-else-dropped-item
+returns-else-dropped-item c = left_stays _ _ _ c.if-dropped-item.false

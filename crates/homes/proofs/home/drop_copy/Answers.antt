@@ -1,10 +1,10 @@
 -- `drop_copy` meets its contract: one store or none. Assumes nothing.
-use Rattle.table.proofs.Laws.Stores.{stored_as, stored_none}
-use Rattle.homes.proofs.Laws.HomeCode.{drop_made, drop_none}
+use Rattle.table.proofs.Laws.Made.{made_as, made_none}
+use Rattle.homes.proofs.Laws.HomeCode.{drop_made, drop_nothing}
 use Rattle.homes.proofs.home.drop_copy.Goals as goal
 
-pub returns-then-drops : goal.returns-then-drops
-returns-then-drops c = stored_as (drop_made _ _ c.if-drops.true c.kept_of-beside.ensures) c.store_state.ensures
+pub returns-in-Some : goal.returns-in-Some
+returns-in-Some c = made_as (drop_made _ _ c.in-Some.is c.kept_of-kept.ensures) c.store_state.ensures
 
-pub returns : goal.returns
-returns c = stored_as (drop_none _ _ c.if-drops.false) (stored_none _ _ _)
+pub returns-in_default : goal.returns-in_default
+returns-in_default c = made_as (drop_nothing _ _ c.in_default.is) (made_none _)

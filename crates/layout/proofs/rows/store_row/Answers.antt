@@ -9,4 +9,4 @@ pub loop-item-preserved : goal.loop-item-preserved
 loop-item-preserved c = search row_turns
 
 pub returns : goal.returns
-returns c = row_ends c.loop-item.invariant c.loop-item-test.false
+returns c = row_ends c.loop-item.invariant c.loop-item.auto.item-end c.loop-item-test.false

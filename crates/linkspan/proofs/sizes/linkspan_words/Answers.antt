@@ -5,8 +5,8 @@ use Rattle.linkspan.proofs.sizes.linkspan_words.Goals as goal
 pub returns-then-items-gt-ITEMS_MAX : goal.returns-then-items-gt-ITEMS_MAX
 returns-then-items-gt-ITEMS_MAX c = search words_past
 
-pub returns-in-NotAllowed : goal.returns-in-NotAllowed
-returns-in-NotAllowed c = search words_none
+pub returns-in-None : goal.returns-in-None
+returns-in-None c = search words_none
 
-pub returns-in-Allowed : goal.returns-in-Allowed
-returns-in-Allowed c = search words_some
+pub returns-in-Some : goal.returns-in-Some
+returns-in-Some c = search words_some

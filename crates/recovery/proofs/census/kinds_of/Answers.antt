@@ -1,21 +1,25 @@
 -- `kinds_of` meets its contract: the loop has tested the items before `item`. Assumes nothing.
 use mathlib.Core.Path.{refl}
 use Rattle.counting.proofs.Laws.Counting.{every_none, every_next, every_ends}
-use borrow.Author.Rules.{rules}
+use native.Mathlib.Omega.{arith}
+use Rattle.std.proofs.lemmas.List.{get_or-take, length-take-le}
 use Rattle.recovery.proofs.census.kinds_of.Goals as goal
 
-pub loop-item-init : goal.loop-item-init
-loop-item-init c = (search rules, (every_none _, every_none _))
+pub loop-tally-init : goal.loop-tally-init
+loop-tally-init c = (every_none _, every_none _)
 
-pub loop-item-preserved : goal.loop-item-preserved
-loop-item-preserved c =
-    let i = c.loop-item.invariant.1 in
-    (search rules, (every_next _ _ i.0 refl, every_next _ _ i.1 c.plain-one.ensures))
+pub loop-tally-preserved : goal.loop-tally-preserved
+loop-tally-preserved c =
+    let i = c.loop-tally.invariant in
+    let n = length-take-le c.args.items c.args.tallies.now c.requires in
+    let e = get_or-take c.args.items c.args.tallies.now c.loop-tally.tally-index 0 (omega arith) in
+    (every_next _ _ i.0 (rw e refl), every_next _ _ i.1 (rw e at c.plain-plain.ensures))
 
 pub returns : goal.returns
 returns c =
-    let i = c.loop-item.invariant in
+    let i = c.loop-tally.invariant in
+    let n = length-take-le c.args.items c.args.tallies.now c.requires in
     record {
-      seen = every_ends _ i.0 c.loop-item-test.false i.1.0;
-      plain = every_ends _ i.0 c.loop-item-test.false i.1.1;
+      seen = every_ends _ (omega arith) (omega arith) i.0;
+      plain = every_ends _ (omega arith) (omega arith) i.1;
     }

@@ -1,6 +1,4 @@
-use Prim.Native.Nat.{◌≤◌, ◌-◌}
 use mathlib.Core.Path.{◌≡◌}
-use lib.ListN.{length}
 use Rattle.counting.specs.Counting.{every}
 use Rattle.table.specs.View.{view}
 use Rattle.survivors.specs.Survivors.{survivors}
@@ -11,10 +9,5 @@ use Rattle.recovery.proofs.census.note_nodes.Given as goal
 
 abbrev pub invariant-loop-node : goal.invariant-loop-node
 invariant-loop-node l =
-    (l.node ≤ l.g.nodes)
-    × (((length l.list ≡ length l.initial.list) × ((length l.tallies ≡ length l.initial.tallies) × ((length l.firsts ≡ length l.initial.firsts) × (length l.used ≡ length l.initial.used))))
-    × (CensusTo l.g l.forward (survivors l.lost (view l.g l.table)) l.node l.tallies l.firsts l.used
-    × ((l.formed ≡ every (node_formed l.g (survivors l.lost (view l.g l.table))) l.node) × (l.agree ≡ equal_to l.g l.forward (survivors l.lost (view l.g l.table)) l.node))))
-
-abbrev pub decreases-loop-node : goal.decreases-loop-node
-decreases-loop-node l = l.g.nodes - l.node
+    CensusTo l.g l.forward (survivors l.lost (view l.g l.table)) l.node l.tallies l.firsts l.used
+    × ((l.formed ≡ every (node_formed l.g (survivors l.lost (view l.g l.table))) l.node) × (l.agree ≡ equal_to l.g l.forward (survivors l.lost (view l.g l.table)) l.node))

@@ -1,13 +1,7 @@
--- `store_lost` meets its contract: nobody is lost, or a node of the table. Assumes nothing.
-use native.Mathlib.Omega.{arith}
-use Rattle.survivors.proofs.Laws.ClosingMarksCode.{lost_within, lost_nobody, lost_node}
+-- `store_lost` meets its contract: a node of the table, or nobody is lost. Assumes nothing.
+use Rattle.table.proofs.Laws.Made.{made_none, made_with}
+use Rattle.survivors.proofs.Laws.ClosingMarksCode.{lost_nobody}
 use Rattle.recovery.proofs.marks.store_lost.Goals as goal
 
-pub overflow_cast-node : goal.overflow_cast-node
-overflow_cast-node c = omega (arith, lost_within c.args.g c.args.lost c.requires c.in-Node.is)
-
-pub returns-in-Nobody : goal.returns-in-Nobody
-returns-in-Nobody c = lost_nobody _ c.args.lost _ _ c.in-Nobody.is
-
-pub returns-in-Node : goal.returns-in-Node
-returns-in-Node c = lost_node _ c.args.lost c.in-Node.is c.store_mark.ensures
+pub returns-in_default : goal.returns-in_default
+returns-in_default c = made_with (made_none _) (lost_nobody _ c.args.lost _ _ c.in_default.is)

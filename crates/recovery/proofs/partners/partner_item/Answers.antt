@@ -2,14 +2,8 @@
 use Rattle.recovery.proofs.Laws.PartnersCode.{item_single, item_none}
 use Rattle.recovery.proofs.partners.partner_item.Goals as goal
 
-pub returns-then-holder-nodes : goal.returns-then-holder-nodes
-returns-then-holder-nodes c =
-    let a = c.args in
-    let h = c.requires.1.1 in
-    item_single a.g a.lost a.item h.one h.is c.partner_from.ensures
+pub returns-then-holder-stores : goal.returns-then-holder-stores
+returns-then-holder-stores c = item_single c.args.lost c.requires.1.1 c.partner_from.ensures
 
-pub returns : goal.returns
-returns c =
-    let a = c.args in
-    let h = c.requires.1.1 in
-    item_none a.g a.lost a.item h.one h.is c.if-holder-nodes.false c.requires.0.counts
+pub returns-else-holder-stores : goal.returns-else-holder-stores
+returns-else-holder-stores c = item_none c.args.lost c.requires.1.1 c.if-holder-stores.false c.requires.0.counts

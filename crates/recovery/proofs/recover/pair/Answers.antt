@@ -1,15 +1,24 @@
 -- `pair` meets its contract: nothing to number, or numbering and then the frames counted anew. Assumes nothing.
-use Rattle.recovery.proofs.Laws.PairsCode.{plain_settles, plain_ready, plain_pairs, surplus_settles, surplus_ready, surplus_pairs}
+use Rattle.recovery.proofs.Laws.PairsCode.{plain_counted, surplus_counted, counted_all, counted_pairs}
 use Rattle.recovery.proofs.recover.pair.Goals as goal
+use Rattle.recovery.proofs.recover.pair.Goals.{then-plain, else-plain}
 
 pub partner_items-requires : goal.partner_items-requires
-partner_items-requires c = (plain_ready c.args.g c.args.lost c.requires c.if-plain.true c.fill_counted.ensures, plain_settles c.args.g c.args.lost c.requires c.if-plain.true)
-
-pub returns-then-plain : goal.returns-then-plain
-returns-then-plain c = plain_pairs c.args.g c.args.lost c.requires c.if-plain.true c.fill_counted.ensures c.partner_items.ensures
-
-pub partner_items-requires-2 : goal.partner_items-requires-2
-partner_items-requires-2 c = (surplus_ready c.args.g c.args.lost c.requires c.number-left.ensures c.fill_used.ensures, surplus_settles c.args.g c.args.lost c.requires c.number-left.ensures)
+partner_items-requires c = elim c.if-plain.branch [
+  | then-plain w ↦
+      rw (w.stores-is, w.scratch-is) (counted_all (plain_counted c.args.lost c.requires w.if-plain.true w.fill_counted.ensures))
+  | else-plain w ↦
+      rw (w.stores-is, w.scratch-is) (counted_all (surplus_counted c.args.lost c.requires w.number.ensures w.fill_used.ensures))
+]
 
 pub returns : goal.returns
-returns c = surplus_pairs c.args.g c.args.lost c.requires c.number-left.ensures c.fill_used.ensures c.partner_items-2.ensures
+returns c =
+    let r = c.partner_items.ensures in
+    elim c.if-plain.branch [
+      | then-plain w ↦
+          counted_pairs (plain_counted c.args.lost c.requires w.if-plain.true w.fill_counted.ensures)
+          (rw (w.stores-is, w.scratch-is) at r)
+      | else-plain w ↦
+          counted_pairs (surplus_counted c.args.lost c.requires w.number.ensures w.fill_used.ensures)
+          (rw (w.stores-is, w.scratch-is) at r)
+    ]

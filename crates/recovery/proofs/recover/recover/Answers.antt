@@ -3,10 +3,10 @@ use Rattle.recovery.proofs.Laws.RecoverCode.{recover_failed, recover_sized, reco
 use Rattle.recovery.proofs.recover.recover.Goals as goal
 
 pub recover_sized-requires : goal.recover_sized-requires
-recover_sized-requires c = recover_sized _ c.sizes-sized.ensures c.in-Passed.is
+recover_sized-requires c = recover_sized _ c.sizes.ensures c.in-Ok.is
 
-pub returns-in-Failed : goal.returns-in-Failed
-returns-in-Failed c = recover_refused _ _ _ (recover_failed _ _ _ c.sizes-sized.ensures c.in-Failed.is)
+pub returns-in-Err : goal.returns-in-Err
+returns-in-Err c = recover_refused _ _ _ (recover_failed _ _ _ c.sizes.ensures c.in-Err.is)
 
-pub returns-in-Passed : goal.returns-in-Passed
-returns-in-Passed c = recover_passed _ _ _ c.sizes-sized.ensures c.in-Passed.is c.recover_sized.ensures
+pub returns-in-Ok : goal.returns-in-Ok
+returns-in-Ok c = recover_passed _ _ _ c.sizes.ensures c.in-Ok.is c.recover_sized.ensures

@@ -1,12 +1,6 @@
-use Prim.Native.Nat.{◌+◌, ◌-◌, ◌*◌, ◌≤◌}
-use mathlib.Core.Path.{◌≡◌}
 use Rattle.entries.specs.code.Row.{row_state}
 use Rattle.recovery.specs.code.Rows.{Listing}
 use Rattle.recovery.proofs.rows.occupied_row.Given as goal
 
 abbrev pub invariant-loop-item : goal.invariant-loop-item
-invariant-loop-item l =
-    (l.item ≤ l.items) × ((l.at ≡ l.start + 3 * l.item) × ((l.count ≤ l.item) × Listing (row_state l.table l.start) l.item l.initial.list l.list l.count))
-
-abbrev pub decreases-loop-item : goal.decreases-loop-item
-decreases-loop-item l = l.items - l.item
+invariant-loop-item l = Listing (row_state l.table l.start) l.item l.initial.list l.list l.count

@@ -18,7 +18,7 @@ returns-in-2 c = call_by_lem _ _ _ _ _ 2 c.in-2.is refl
 
 pub returns-in-3 : goal.returns-in-3
 unfolding call_by
-returns-in-3 c = call_evict _ _ _ _ _ c.in-3.is c.place_by-place.ensures
+returns-in-3 c = call_evict _ _ _ _ _ c.in-3.is c.from-place.ensures
 
 pub returns-in-4 : goal.returns-in-4
 unfolding call_by

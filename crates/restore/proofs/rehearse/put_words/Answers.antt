@@ -4,10 +4,10 @@ use borrow.Author.Rules.{rules}
 use Rattle.restore.proofs.rehearse.put_words.Goals as goal
 
 pub loop-i-init : goal.loop-i-init
-loop-i-init c = (search rules, (search rules, put_none _ _ _ _))
+loop-i-init c = (search rules, put_none _ _ _ _)
 
 pub loop-i-preserved : goal.loop-i-preserved
-loop-i-preserved c = (search rules, (search rules, put_next _ _ _ _ _ c.loop-i.invariant.1.1 c.node_word_at-at.ensures c.word-word.ensures c.store.ensures))
+loop-i-preserved c = (search rules, put_next _ _ _ _ _ c.loop-i.invariant.1 c.node_word_at-at.ensures c.word-word.ensures c.store.ensures)
 
 pub returns : goal.returns
-returns c = put_end _ _ _ _ c.loop-i.invariant.0 c.loop-i-test.false c.fewer-count.ensures c.loop-i.invariant.1.1
+returns c = put_end _ _ _ _ c.loop-i.auto.i-end c.loop-i-test.false c.min-i-end.ensures c.loop-i.invariant.1

@@ -1,4 +1,3 @@
-use Prim.Native.Nat.{◌≤◌, ◌-◌}
 use mathlib.Core.Path.{◌≡◌}
 use lib.ListN.{length}
 use Rattle.restore.specs.Run.{run}
@@ -7,8 +6,5 @@ use Rattle.restore.proofs.rehearse.run_calls.Given as goal
 
 abbrev pub invariant-loop-i : goal.invariant-loop-i
 invariant-loop-i l =
-    (l.i ≤ l.count) × ((length l.scratch ≡ length l.initial.scratch) × ((length l.table ≡ length l.initial.table)
-    × ((l.table ≡ run l.initial.table (steps_to l.calls (length l.initial.scratch) l.i)) × (l.scratch ≡ scratch_run l.initial.table (steps_to l.calls (length l.initial.scratch) l.i) l.initial.scratch))))
-
-abbrev pub decreases-loop-i : goal.decreases-loop-i
-decreases-loop-i l = l.count - l.i
+    (length l.scratch ≡ length l.initial.scratch) × ((length l.table ≡ length l.initial.table)
+    × ((l.table ≡ run l.initial.table (steps_to l.calls (length l.initial.scratch) l.i)) × (l.scratch ≡ scratch_run l.initial.table (steps_to l.calls (length l.initial.scratch) l.i) l.initial.scratch)))

@@ -1,14 +1,10 @@
--- `survivor_count` meets its contract: the loop has counted the nodes before `node`. Assumes nothing.
-use Rattle.counting.proofs.Laws.Counting.{count_none, count_turn}
-use Rattle.survivors.proofs.Laws.SurvivorsCode.{count_end}
-use borrow.Author.Rules.{rules}
+-- `survivor_count` meets its contract: it counts the nodes whose mark is not 0. Assumes nothing.
+use Rattle.std.proofs.Common.{rules, tests}
+use Rattle.counting.proofs.Laws.Chains.{count_below}
+use Rattle.survivors.specs.Survivors.{survivor_count}
 use Rattle.survivors.proofs.nodes.survivor_count.Goals as goal
 
-pub loop-node-init : goal.loop-node-init
-loop-node-init c = (search rules, (count_none _, search rules))
-
-pub loop-node-preserved : goal.loop-node-preserved
-loop-node-preserved c = (search rules, (count_turn _ _ c.loop-node.invariant.1.0 c.one_survivor-n.ensures, search rules))
-
 pub returns : goal.returns
-returns c = (count_end _ _ _ c.loop-node.invariant.1.0 c.loop-node.invariant.0 c.loop-node-test.false, search rules)
+unfolding survivor_count
+returns c =
+    (count_below _ c.count.ensures.ran c.filter.ensures.source c.filter.ensures.closure (λ x b q k. search (rules, tests)), search rules)

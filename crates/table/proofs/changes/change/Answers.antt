@@ -1,6 +1,8 @@
--- `change` meets its contract. Assumes nothing.
-use Rattle.table.proofs.Laws.Changes.{change_at}
+-- `change` meets its contract: the state's row, the event's column. Assumes nothing.
+use Rattle.std.proofs.Common.{◌%◌, get_or, [], ap}
+use Rattle.table.specs.Changes.{changes, change_of}
 use Rattle.table.proofs.changes.change.Goals as goal
 
 pub returns : goal.returns
-returns c = change_at _ _ c.row-row.ensures c.column.ensures
+unfolding change_of
+returns c = ap (λ k. get_or (get_or changes (c.args.state % 8) []) k 0) c.column.ensures

@@ -1,7 +1,0 @@
--- `word` meets its contract: past the end of a list stands its default. Assumes nothing.
-use mathlib.Core.Path.{sym}
-use lib.ListN.{get_or-eq_default}
-use Rattle.table.proofs.stores.word.Goals as goal
-
-pub returns-else-at-table : goal.returns-else-at-table
-returns-else-at-table c = sym (get_or-eq_default c.args.table.now 0 c.if-at-table.false)
