@@ -4,14 +4,14 @@
 ghost use Rattle.std.specs.Prelude.{◌≡◌, ◌+◌, ◌*◌, ◌/◌, ◌%◌, ◌^◌, ◌<◌, ◌≤◌, length, get_or};
 ghost use Rattle.table.specs.View.{view};
 ghost use Rattle.entries.specs.code.Row.{top_of, row_state};
-ghost use Rattle.entries.specs.code.Survey.{weight_of, created_tally, kind_by};
+ghost use Rattle.entries.specs.code.Survey.{weight_of, holds, keeps, created_tally, kind_by};
 ghost use Rattle.entries.specs.code.SurveyRow.{Gathered, EntryNoted, RowReady, RowNoted};
 ghost use Rattle.entries.specs.code.SurveyGather.{Gathering, GatheredMore};
 ghost use Rattle.entries.specs.code.SurveySound.{fits_test, RowFrames, Surveyable, Surveying, RowSurveyed, RowsSurveyed};
 ghost use Rattle.entries.specs.code.SurveyDirty.{kinds_found, found};
 
 use crate::frames;
-use counting::choice;
+use counting::{bits, choice};
 use table::geometry::Geometry;
 use table::stores;
 
@@ -99,6 +99,28 @@ fn weight(top: u8) -> u64
     WEIGHTS[top as usize]
 }
 
+// Which of the six top bits are of good form with a current copy, and which with a kept one: bit k stands for number k.
+const HOLDS: u64 = 0x7711_7770;
+
+const KEEPS: u64 = 0x6600_6666;
+
+// Whether an entry has a current copy, by the six top bits of its state word. What is told by a bit of a constant is
+// chosen without a branch; what is told by a number of a table is not.
+fn holds(top: u8) -> bool
+    requires { top < 64 }
+    ensures { result ≡ holds top }
+{
+    bits::bit_at(HOLDS, top)
+}
+
+// Whether it has a kept copy.
+fn keeps(top: u8) -> bool
+    requires { top < 64 }
+    ensures { result ≡ keeps top }
+{
+    bits::bit_at(KEEPS, top)
+}
+
 // Gathers one entry more: its offset stands in the list, and counts if its state word is not 0.
 fn gather_one(table: &[u64], start: usize, offset: usize, list: &mut [u16], count: usize) -> usize
     requires { (start + offset < length table.now) × ((count < length list.old) × ((count < 256) × (offset < 768))) }
@@ -161,14 +183,15 @@ fn note_entry(table: &[u64], at: usize, j: usize, notes: &mut [u64]) -> Turn
     let tally = notes[j];
     let first = notes[j + 1];
     let kept_first = notes[j + 2];
-    let weight = weight((state / 0x400_0000_0000_0000) as u8);
+    let top = (state / 0x400_0000_0000_0000) as u8;
+    let weight = weight(top);
     let first = choice::either(tally % 32 == 0, value, first);
     let kept_first = choice::either(tally / 32 % 1024 == 0, kept_value, kept_first);
     notes[j] = tally + weight;
     notes[j + 1] = first;
     notes[j + 2] = kept_first;
-    let met = choice::either(weight % 32 == 0, first, value);
-    let kept_met = choice::either(weight / 32 % 1024 == 0, kept_first, kept_value);
+    let met = choice::either(holds(top), value, first);
+    let kept_met = choice::either(keeps(top), kept_value, kept_first);
     Turn {
         frames: weight / 0x2000_0000_0000,
         differ: (first ^ met) | ((kept_first ^ kept_met) | (state % 0x400_0000_0000_0000)),

@@ -2,10 +2,10 @@
 -- a copy; a refusal gives an empty stretch, and a second call with the same inputs gives its number, or 0."
 use Rattle.std.specs.Prelude.{ℕ, ◌+◌, ◌*◌, ◌≤◌, ◌≡◌, cond, List, [], leb, length, take, drop, Err, Ok, Result}
 use Rattle.table.specs.declared.answers.Refusal.TheVariants.{NoNode}
-use Rattle.std.specs.declared.ops.Range.{Range}
 use Rattle.table.specs.declared.geometry.Geometry.{Geometry}
 use Rattle.table.specs.declared.answers.Refusal.{Refusal}
 use Rattle.table.specs.Geometry.{entry_words, entry_at}
+use Rattle.layout.specs.declared.stretch.Span.{Span}
 use Rattle.entries.specs.Check.{sizes_of, fault_of}
 use Rattle.table.specs.Answers.{Plan, refuse, nothing_left, carry}
 
@@ -34,12 +34,12 @@ stretch_part t n nothing_left = []
 stretch_part t n (carry g value ss) = take (entry_words * g.items) (drop (entry_at g n 0) t)
 
 -- where it lies
-unfoldable pub span_by : ℕ → Plan → Result (Range ℕ) Refusal
+unfoldable pub span_by : ℕ → Plan → Result Span Refusal
 span_by n (refuse x) = Err x
 span_by n nothing_left = Ok (record { start = 0; end = 0 })
 span_by n (carry g value ss) = Ok (record { start = entry_at g n 0; end = entry_at g n 0 + entry_words * g.items })
 
 -- where code finds a node's entries
-pub record Spanned (t : List ℕ) (n : ℕ) (r : Result (Range ℕ) Refusal) : Type 0 where
+pub record Spanned (t : List ℕ) (n : ℕ) (r : Result Span Refusal) : Type 0 where
   pub is : r ≡ span_by n (stretch_of t n)
-  pub within : (span : Range ℕ) → r ≡ Ok span → (span.start ≤ span.end) × (span.end ≤ length t)
+  pub within : (span : Span) → r ≡ Ok span → (span.start ≤ span.end) × (span.end ≤ length t)

@@ -4,12 +4,18 @@ ghost use Rattle.table.specs.Answers.{Told, numbers_at};
 ghost use Rattle.layout.specs.Stretch.{stretch_of, stretch_part, Spanned};
 
 use entries::check;
-use std::ops::Range;
 use table::answers::{Answer, Numbers, Refusal};
 use table::geometry::Geometry;
 
+// Where a node's entries lie in the table: from a place up to another, which is past them.
+#[derive(Clone, Copy)]
+pub struct Span {
+    pub start: usize,
+    pub end: usize,
+}
+
 // Where a node's entries lie in the table, or why they are not given.
-pub fn span_of(table: &[u64], node: u64) -> Result<Range<usize>, Refusal>
+pub fn span_of(table: &[u64], node: u64) -> Result<Span, Refusal>
     ensures { Spanned table.now node result }
 {
     let g = check::sizes(table)?;
@@ -18,7 +24,7 @@ pub fn span_of(table: &[u64], node: u64) -> Result<Range<usize>, Refusal>
     }
     let start = g.entry_at(node as u8, 0);
     let end = start + Geometry::ENTRY_WORDS * (g.items as usize);
-    Ok(start..end)
+    Ok(Span { start, end })
 }
 
 // A node's entries: a part of the table, empty on a refusal.
@@ -27,7 +33,7 @@ pub fn stretch(table: &[u64], node: u64) -> &[u64]
 {
     match span_of(table, node) {
         Err(_) => &table[..0],
-        Ok(span) => &table[span],
+        Ok(span) => &table[span.start..span.end],
     }
 }
 
@@ -37,7 +43,7 @@ pub fn stretch_mut(table: &mut [u64], node: u64) -> &mut [u64]
 {
     match span_of(table, node) {
         Err(_) => &mut table[..0],
-        Ok(span) => &mut table[span],
+        Ok(span) => &mut table[span.start..span.end],
     }
 }
 

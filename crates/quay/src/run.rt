@@ -6,6 +6,7 @@ ghost use Rattle.quay.specs.code.Chunk.{ChunkRun};
 
 use std::io;
 use std::io::{Read, Write};
+use std::ops::ControlFlow;
 use steps::run;
 use steps::serve::Progress;
 
@@ -27,14 +28,14 @@ fn fill<R: Read>(file: &mut R, bytes: &mut [u8]) -> io::Result<usize>
     Ok(count)
 }
 
-// Reads a chunk, runs it and writes its lines. The progress after it; None where it is short, and so the last.
+// Reads a chunk, runs it and writes its lines. The progress after it; breaks where the chunk is short, and so the last.
 fn run_next<R: Read, W: Write>(
     file: &mut R,
     lines: &mut W,
     table: &mut [u64; 8000],
     scratch: &mut [u64; 272],
     progress: Progress,
-) -> io::Result<Option<Progress>>
+) -> io::Result<ControlFlow<Progress, Progress>>
     ensures { IfOk result (λ next. ChunkRun
         (quay table.old scratch.old progress) (quay table.new scratch.new)
         (R.remaining file.old) (R.remaining file.new)
@@ -45,7 +46,10 @@ fn run_next<R: Read, W: Write>(
     let n = fill(file, &mut bytes)?;
     let ran = run::run_chunk(table, scratch, progress, &bytes, n, &mut out);
     lines.write_all(&out[..ran.count])?;
-    Ok((n == run::CHUNK).then_some(ran.progress))
+    if n == run::CHUNK {
+        return Ok(ControlFlow::Continue(ran.progress));
+    }
+    Ok(ControlFlow::Break(ran.progress))
 }
 
 // Runs a file's records, to the end of the file. Where its bytes are known, exactly quay's lines of them are written.
@@ -59,11 +63,10 @@ pub(crate) fn run_file<R: Read, W: Write>(file: &mut R, lines: &mut W) -> io::Re
     let mut scratch = run::scratch();
     let mut progress = run::start();
     for _ in 0..u64::MAX {
-        let next = run_next(file, lines, &mut table, &mut scratch, progress)?;
-        let Some(after) = next else {
-            return Ok(());
-        };
-        progress = after;
+        match run_next(file, lines, &mut table, &mut scratch, progress)? {
+            ControlFlow::Continue(after) => progress = after,
+            ControlFlow::Break(_) => return Ok(()),
+        }
     }
     Err(io::Error::other("the file does not end"))
 }

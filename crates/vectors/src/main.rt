@@ -13,7 +13,7 @@ const PATH: &str = "vectors.bin";
 
 fn main(rt: HostRuntime) -> Result<()> {
     let mut file = fs::open(&rt, PATH).context(PATH)?;
-    let tally = run::run_file(&rt, rt.alloc(), &mut file)?;
+    let tally = run::run_file(&rt, &mut file)?;
     compare::print_tally(&rt, tally)?;
     Ok(())
 }

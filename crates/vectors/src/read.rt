@@ -1,10 +1,17 @@
 // The words of the file, big-endian, and the vectors that they make.
-use std::alloc::Global;
+ghost use Rattle.std.specs.Prelude.{◌≤◌};
+
 use std::io;
 use std::io::{ErrorKind, Read};
 
-// The most words that are read at a time.
-const MOST: usize = 8000;
+// The most words of a table, and the most that are changed in it.
+pub(crate) const WORDS: usize = 8000;
+
+// The most words of a scratch.
+pub(crate) const ROOM: usize = 300;
+
+// The words that are read at a time.
+const CHUNK: usize = 512;
 
 // The words of a vector's header.
 const HEADER: usize = 12;
@@ -27,35 +34,33 @@ pub(crate) struct Vector {
     pub stores: u64,
 }
 
-// Table and scratch that a call is given, and what it is to leave of them.
+// Two lists of words, one as long as the other, in the first words of two arrays: a table that a call is given and what
+// it is to leave of it, a scratch likewise, places and the words that are put there.
 #[derive(Drop)]
-pub(crate) struct Given {
-    pub table: Vec<u64>,
-    pub expected: Vec<u64>,
-    pub scratch: Vec<u64>,
-    pub left: Vec<u64>,
+pub(crate) struct Pair<const MOST: usize> {
+    pub before: [u64; MOST],
+    pub after: [u64; MOST],
 }
 
-// The words that bytes make.
-fn words_of(alloc: Global, bytes: &[u8]) -> io::Result<Vec<u64>> {
-    let mut words = Vec::new(alloc);
-    for word in bytes.as_chunks::<8>().0 {
-        words.push(u64::from_be_bytes(*word))?;
+// The words that bytes make, as many as both have.
+fn decode(bytes: &[u8], words: &mut [u64]) {
+    for (word, bytes) in words.iter_mut().zip(bytes.as_chunks::<8>().0) {
+        *word = u64::from_be_bytes(*bytes);
     }
-    Ok(words)
 }
 
-// So many words of the file; None where it has fewer, or they are over 8,000.
-fn read_words<R: Read>(alloc: Global, file: &mut R, count: usize) -> io::Result<Option<Vec<u64>>> {
-    if MOST < count {
-        return Ok(None);
+// Fills the words from the file; whether it has as many.
+fn read_words<R: Read>(file: &mut R, words: &mut [u64]) -> io::Result<bool> {
+    let mut buffer = [0u8; 8 * CHUNK];
+    for words in words.chunks_mut(CHUNK) {
+        let bytes = &mut buffer[..8 * CHUNK.min(words.len())];
+        match file.read_exact(bytes) {
+            Ok(()) => decode(bytes, words),
+            Err(e) if e.kind() == ErrorKind::UnexpectedEof => return Ok(false),
+            Err(e) => return Err(e),
+        }
     }
-    let mut bytes = vec![in alloc; 0u8; 8 * count]?;
-    match file.read_exact(&mut bytes) {
-        Ok(()) => Ok(Some(words_of(alloc, &bytes)?)),
-        Err(e) if e.kind() == ErrorKind::UnexpectedEof => Ok(None),
-        Err(e) => Err(e),
-    }
+    Ok(true)
 }
 
 // A vector's header from its words.
@@ -77,11 +82,10 @@ fn vector_of(header: &[u64; HEADER]) -> Vector {
 }
 
 // The next vector's header; None where the file has no whole one.
-pub(crate) fn read_header<R: Read>(alloc: Global, file: &mut R) -> io::Result<Option<Vector>> {
-    let Some(header) = read_words(alloc, file, HEADER)? else {
-        return Ok(None);
-    };
-    Ok(header.first_chunk().map(vector_of))
+pub(crate) fn read_header<R: Read>(file: &mut R) -> io::Result<Option<Vector>> {
+    let mut header = [0u64; HEADER];
+    let there = read_words(file, &mut header)?;
+    Ok(there.then_some(vector_of(&header)))
 }
 
 // Puts each word in its place; whether each place is there.
@@ -95,50 +99,39 @@ fn put_words(words: &mut [u64], places: &[u64], news: &[u64]) -> bool {
     true
 }
 
-// The table that a call is to leave: the given one, but for as many changed words as the file tells. None where they
-// are not all there, or have no place.
-fn read_expected<R: Read>(
-    alloc: Global,
+// Reads a pair of so many words; whether both are all there. The second is read also where the first is not all there,
+// so that a read that fails is told.
+pub(crate) fn read_pair<R: Read, const MOST: usize>(
     file: &mut R,
-    given: &[u64],
-    changes: usize,
-) -> io::Result<Option<Vec<u64>>> {
-    let Some(places) = read_words(alloc, file, changes)? else {
-        return Ok(None);
-    };
-    let Some(news) = read_words(alloc, file, changes)? else {
-        return Ok(None);
-    };
-    let mut expected = given.to_vec(alloc)?;
-    if put_words(&mut expected, &places, &news) {
-        return Ok(Some(expected));
-    }
-    Ok(None)
+    pair: &mut Pair<MOST>,
+    count: usize,
+) -> io::Result<bool>
+    requires { count ≤ MOST }
+{
+    let before = &mut pair.before[..];
+    let read = read_words(file, &mut before[..count])?;
+    let after = &mut pair.after[..];
+    let read_after = read_words(file, &mut after[..count])?;
+    Ok(read & read_after)
 }
 
-// What the file tells of a vector; None where it is not all there.
-pub(crate) fn read_given<R: Read>(
-    alloc: Global,
+// Reads the table that a call is given, and the changes that make of it the one that the call is to leave; whether all
+// is there. The changes are read also where the table is not all there.
+pub(crate) fn read_table<R: Read>(
     file: &mut R,
-    v: Vector,
-) -> io::Result<Option<Given>> {
-    let room = v.room as usize;
-    let Some(table) = read_words(alloc, file, v.words as usize)? else {
-        return Ok(None);
-    };
-    let Some(expected) = read_expected(alloc, file, &table, v.changes as usize)? else {
-        return Ok(None);
-    };
-    let Some(scratch) = read_words(alloc, file, room)? else {
-        return Ok(None);
-    };
-    let Some(left) = read_words(alloc, file, room)? else {
-        return Ok(None);
-    };
-    Ok(Some(Given {
-        table,
-        expected,
-        scratch,
-        left,
-    }))
+    table: &mut Pair<WORDS>,
+    words: usize,
+    changes: &mut Pair<WORDS>,
+    count: usize,
+) -> io::Result<bool>
+    requires { (words ≤ 8000) × (count ≤ 8000) }
+{
+    let given = &mut table.before[..];
+    let read = read_words(file, &mut given[..words])?;
+    let changed = read_pair(file, changes, count)?;
+    let expected = &mut table.after[..];
+    let expected = &mut expected[..words];
+    expected.copy_from_slice(&table.before[..words]);
+    let put = put_words(expected, &changes.before[..count], &changes.after[..count]);
+    Ok(read & changed & put)
 }

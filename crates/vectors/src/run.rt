@@ -2,20 +2,13 @@
 ghost use Rattle.std.specs.Prelude.{◌+◌, ◌<◌, ◌≤◌, ◌^◌, ◌≡◌, IfOk};
 ghost use Rattle.vectors.specs.code.Counts.{tally_of};
 
-use crate::read::{Given, Vector};
+use crate::read::{Pair, ROOM, Vector, WORDS};
 use crate::{compare, read};
 use restore::operations;
-use std::alloc::Global;
 use std::io;
 use std::io::Read;
 use std::ops::ControlFlow;
 use table::answers::Numbers;
-
-// The most words of a table.
-const WORDS: u64 = 8000;
-
-// The most words of a scratch.
-const ROOM: u64 = 300;
 
 // More vectors than the longest file has, which is under 2^63 bytes.
 const VECTORS: u64 = 0x1000_0000_0000_0000;
@@ -44,38 +37,58 @@ fn as_told(rt: &impl Print, number: u64, v: Vector, table: &[u64]) -> io::Result
     Ok(true)
 }
 
-// Runs a vector's call, and compares.
-fn run_call(rt: &impl Print, number: u64, v: Vector, mut given: Given) -> io::Result<Outcome> {
+// Runs a vector's call on the first words of a table and of a scratch, and compares.
+fn run_call(
+    rt: &impl Print,
+    number: u64,
+    v: Vector,
+    tables: &mut Pair<WORDS>,
+    scratches: &mut Pair<ROOM>,
+) -> io::Result<Outcome>
+    requires { (v.words ≤ 8000) × (v.room ≤ 300) }
+{
     let named = operations::call_by(v.operation, v.first, v.second, v.third, v.choice);
     let Some(call) = named else {
         return Ok(Outcome::Malformed);
     };
-    let told = as_told(rt, number, v, &given.table)?;
-    let answer = restore::call::carry_out(&mut given.table, call, &mut given.scratch, v.limit);
+    let words = v.words as usize;
+    let room = v.room as usize;
+    let table = &mut tables.before[..];
+    let table = &mut table[..words];
+    let scratch = &mut scratches.before[..];
+    let scratch = &mut scratch[..room];
+    let told = as_told(rt, number, v, table)?;
+    let answer = restore::call::carry_out(table, call, scratch, v.limit);
     let answered = compare::same_answer(rt, number, v, Numbers::from(answer))?;
-    let stored = compare::same_words(rt, number, "table", &given.table, &given.expected)?;
-    let cleared = compare::same_words(rt, number, "scratch", &given.scratch, &given.left)?;
+    let stored = compare::same_words(rt, number, "table", table, &tables.after[..words])?;
+    let cleared = compare::same_words(rt, number, "scratch", scratch, &scratches.after[..room])?;
     if told & answered & stored & cleared {
         return Ok(Outcome::Same);
     }
     Ok(Outcome::Differs)
 }
 
-// Reads the words of a vector and runs it, where its table and its scratch are not over the most.
+// Reads the words of a vector and runs it, where there is room for them.
 fn run_vector<R: Read>(
     rt: &impl Print,
-    alloc: Global,
     file: &mut R,
+    tables: &mut Pair<WORDS>,
+    changes: &mut Pair<WORDS>,
+    scratches: &mut Pair<ROOM>,
     number: u64,
     v: Vector,
 ) -> io::Result<Outcome> {
-    if (WORDS < v.words) | (WORDS < v.changes) | (ROOM < v.room) {
+    if (WORDS < v.words as usize) | (WORDS < v.changes as usize) | (ROOM < v.room as usize) {
         return Ok(Outcome::Malformed);
     }
-    match read::read_given(alloc, file, v)? {
-        None => Ok(Outcome::Malformed),
-        Some(given) => run_call(rt, number, v, given),
+    let words = v.words as usize;
+    let changed = v.changes as usize;
+    let tabled = read::read_table(file, tables, words, changes, changed)?;
+    let scratched = read::read_pair(file, scratches, v.room as usize)?;
+    if tabled & scratched {
+        return run_call(rt, number, v, tables, scratches);
     }
+    Ok(Outcome::Malformed)
 }
 
 // One vector later: one that differs is counted, and so is a malformed one, which is the last.
@@ -95,18 +108,20 @@ fn counted(tally: Tally, outcome: Outcome) -> ControlFlow<Tally, Tally>
 // Reads the next vector and runs it; breaks where there is no whole header. A malformed one has a line.
 fn run_next<R: Read>(
     rt: &impl Print,
-    alloc: Global,
     file: &mut R,
+    tables: &mut Pair<WORDS>,
+    changes: &mut Pair<WORDS>,
+    scratches: &mut Pair<ROOM>,
     tally: Tally,
 ) -> io::Result<ControlFlow<Tally, Tally>>
     requires { (tally.vectors < 2 ^ 62) × (tally.different < 2 ^ 62) }
     ensures { IfOk result (λ next.
         ((tally_of next).vectors ≤ tally.vectors + 1) × ((tally_of next).different ≤ tally.different + 1)) }
 {
-    let Some(v) = read::read_header(alloc, file)? else {
+    let Some(v) = read::read_header(file)? else {
         return Ok(ControlFlow::Break(tally));
     };
-    let outcome = run_vector(rt, alloc, file, tally.vectors, v)?;
+    let outcome = run_vector(rt, file, tables, changes, scratches, tally.vectors, v)?;
     if let Outcome::Malformed = outcome {
         compare::print_malformed(rt, tally.vectors)?;
     }
@@ -114,13 +129,25 @@ fn run_next<R: Read>(
 }
 
 // Runs the vectors of a file.
-pub(crate) fn run_file<R: Read>(rt: &impl Print, alloc: Global, file: &mut R) -> io::Result<Tally> {
+pub(crate) fn run_file<R: Read>(rt: &impl Print, file: &mut R) -> io::Result<Tally> {
+    let mut tables = Pair {
+        before: [0; WORDS],
+        after: [0; WORDS],
+    };
+    let mut changes = Pair {
+        before: [0; WORDS],
+        after: [0; WORDS],
+    };
+    let mut scratches = Pair {
+        before: [0; ROOM],
+        after: [0; ROOM],
+    };
     let mut tally = Tally {
         vectors: 0,
         different: 0,
     };
     for _ in 0..VECTORS {
-        match run_next(rt, alloc, file, tally)? {
+        match run_next(rt, file, &mut tables, &mut changes, &mut scratches, tally)? {
             ControlFlow::Continue(next) => tally = next,
             ControlFlow::Break(last) => return Ok(last),
         }

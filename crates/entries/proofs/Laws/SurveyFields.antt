@@ -6,6 +6,7 @@ use native.Mathlib.Omega.{arith}
 use lib.Dec.{eqb, ltb}
 use borrow.Author.Tests.{eqb-true, eq-eqb, ltb-true}
 use Rattle.counting.proofs.Laws.Tests.{both, by_cases, bool_iff}
+use Rattle.counting.specs.Bits.{bit_at}
 use Rattle.counting.specs.Counting.{every, sum, count, one}
 use Rattle.counting.proofs.Laws.Counting.{every_at, one_same, count_le}
 use Rattle.counting.proofs.Laws.Values.{count_seen}
@@ -22,6 +23,13 @@ holds_rule i = eqb (one (eqb (weight_of i % 32) 0)) (one (not (holds i)))
 abbrev keeps_rule : ℕ → Bool
 keeps_rule i = eqb (one (eqb (weight_of i / 32 % 1024) 0)) (one (not (keeps i)))
 
+-- the constants of the code
+abbrev held_rule : ℕ → Bool
+held_rule i = eqb (one (bit_at 0x77117770 i)) (one (holds i))
+
+abbrev kept_bit_rule : ℕ → Bool
+kept_bit_rule i = eqb (one (bit_at 0x66006666 i)) (one (keeps i))
+
 abbrev frames_rule : ℕ → Bool
 frames_rule i = eqb (weight_of i / 2 ^ 45) (frames_by i + one (not (codes_form i)) * 1024)
 
@@ -36,6 +44,14 @@ module _ (top : ℕ) (small : top < 64) where
   pub weight_keeps : eqb (weight_of top / 32 % 1024) 0 ≡ not (keeps top)
   unfolding every weight_of holds keeps keeps_at holds_at frames_by codes_form
   weight_keeps = one_same _ _ (eqb-true _ _ (every_at 64 keeps_rule refl top small))
+
+  pub held_bit : bit_at 0x77117770 top ≡ holds top
+  unfolding every bit_at holds codes_form
+  held_bit = one_same _ _ (eqb-true _ _ (every_at 64 held_rule refl top small))
+
+  pub kept_bit : bit_at 0x66006666 top ≡ keeps top
+  unfolding every bit_at keeps codes_form
+  kept_bit = one_same _ _ (eqb-true _ _ (every_at 64 kept_bit_rule refl top small))
 
   -- the frames, and 1024 more of an entry out of form
   pub weight_frames : weight_of top / 2 ^ 45 ≡ frames_by top + one (not (codes_form top)) * 1024

@@ -1,7 +1,7 @@
 -- A row as it is noted: one entry, then the row entry by entry; those that hold nothing are passed over.
 use Prim.Native.Nat.{ℕ, zero, suc, ◌+◌, ◌*◌, ◌/◌, ◌%◌, ◌^◌, ◌<◌, ◌≤◌}
 use mathlib.Core.Path.{◌≡◌, refl, sym, ap, ap₂, subst, ◌∙◌}
-use mathlib.Core.Bool.{Bool, true, cond, ◌&&◌, and-true, and_assoc, and_comm}
+use mathlib.Core.Bool.{Bool, true, false, not, cond, ◌&&◌, and-true, and_assoc, and_comm}
 use mathlib.Core.List.{List}
 use native.Mathlib.Omega.{arith}
 use native.Mathlib.Decide.{ℕ_discrete}
@@ -22,8 +22,9 @@ use Rattle.table.proofs.Laws.View.{entry_read}
 use Rattle.entries.specs.declared.survey.Turn.{Turn}
 use Rattle.entries.specs.code.Row.{top_of, row_state}
 use Rattle.entries.proofs.Laws.Row.{row_state_lem}
-use Rattle.entries.specs.code.Survey.{top_at, weight_of, Noted, agrees_at, low_form}
+use Rattle.entries.specs.code.Survey.{top_at, weight_of, holds, keeps, Noted, agrees_at, low_form}
 use Rattle.entries.specs.code.SurveyRow.{occupies, Gathered, first_with, kept_with, same_with, same_kept, EntryNoted, NotedAll, RowReady, RowNoted}
+use Rattle.entries.proofs.Laws.SurveyFields.{weight_holds, weight_keeps}
 use Rattle.entries.proofs.Laws.SurveyStep.{noted_blank, noted_room, noted_next, noted_same, agrees_blank, frames_blank}
 use Rattle.entries.proofs.Laws.SurveyGather.{next_occupied, all_blank, count_occupied}
 
@@ -42,6 +43,18 @@ entry_noted s x y j notes {f = f} {h} {met} {kept} a b c d e = record {
       ∙ ap₂ ◌&&◌ (none_differ f met) (none_gathered (bit_xor h kept) (s % 2 ^ 58) ∙ ap (λ z. z && low_form s) (none_differ h kept))
       ∙ rw (← a, ← b, ← c, d, e) refl;
 }
+
+-- what is chosen by whether a copy is there is chosen by the weight
+either_way : (b : Bool) (x f : ℕ) → cond b x f ≡ cond (not b) f x
+either_way true x f = refl
+either_way false x f = refl
+
+module _ (x f : ℕ) {top w met : ℕ} {there : Bool} (small : top < 64) (a : w ≡ weight_of top) (e : met ≡ cond there x f) where
+  pub met_held : there ≡ holds top → met ≡ cond (eqb (w % 32) 0) f x
+  met_held b = e ∙ rw (a, b, weight_holds top small) (either_way (holds top) x f)
+
+  pub met_kept : there ≡ keeps top → met ≡ cond (eqb (w / 32 % 1024) 0) f x
+  met_kept b = e ∙ rw (a, b, weight_keeps top small) (either_way (keeps top) x f)
 
 -- three words in a row are written
 module _ (l : List ℕ) (j a b c : ℕ) where

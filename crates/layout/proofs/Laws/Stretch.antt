@@ -13,7 +13,7 @@ use Rattle.table.specs.declared.geometry.Geometry.{Geometry}
 use Rattle.table.specs.declared.answers.Refusal.{Refusal}
 use Rattle.table.specs.declared.answers.Refusal.TheVariants.{NoNode}
 use Rattle.table.specs.declared.answers.Answer.TheVariants.{Done}
-use Rattle.std.specs.declared.ops.Range.{Range}
+use Rattle.layout.specs.declared.stretch.Span.{Span}
 use Rattle.table.specs.Geometry.{entry_words, entry_at}
 use Rattle.entries.specs.Check.{sizes_of, fault_of}
 use Rattle.entries.proofs.Laws.CheckFacts.{sizes_facts}
@@ -32,7 +32,7 @@ module _ (t : List ℕ) where
   unfolding checked_plan
   check_passed e = ap checked_plan (sym e)
 
-never_entries : {x : Refusal} {span : Range ℕ} → Err x ≡ Ok span → ⊥
+never_entries : {x : Refusal} {span : Span} → Err x ≡ Ok span → ⊥
 never_entries e = let z : ◌≡◌ {A = ℕ} 0 1 = cc in omega arith
 
 module _ (t : List ℕ) (n : ℕ) where
@@ -71,7 +71,7 @@ module _ (t : List ℕ) (n : ℕ) where
 
 -- the part that the code gives, and the answer
 module _ (t : List ℕ) (n : ℕ) where
-  found_part : (p : Plan) {span : Range ℕ} → span_by n p ≡ Ok span → take (span.end - span.start) (drop span.start t) ≡ stretch_part t n p
+  found_part : (p : Plan) {span : Span} → span_by n p ≡ Ok span → take (span.end - span.start) (drop span.start t) ≡ stretch_part t n p
   unfolding span_by stretch_part
   found_part (refuse x) e = absurd (never_entries e)
   found_part nothing_left {span} e =
@@ -90,7 +90,7 @@ module _ (t : List ℕ) (n : ℕ) where
   empty_part nothing_left e = absurd (never_entries (sym e))
   empty_part (carry g value ss) e = absurd (never_entries (sym e))
 
-  pub stretch_found : {span : Range ℕ} → Spanned t n (Ok span) → take (span.end - span.start) (drop span.start t) ≡ stretch_part t n (stretch_of t n)
+  pub stretch_found : {span : Span} → Spanned t n (Ok span) → take (span.end - span.start) (drop span.start t) ≡ stretch_part t n (stretch_of t n)
   stretch_found s = found_part (stretch_of t n) (sym s.is)
 
   pub stretch_empty : {x : Refusal} → Spanned t n (Err x) → [] ≡ stretch_part t n (stretch_of t n)
@@ -105,7 +105,7 @@ module _ (t : List ℕ) (n : ℕ) where
       go nothing_left e = absurd (never_entries (sym e))
       go (carry g value ss) e = absurd (never_entries (sym e))
 
-  pub answer_yes : {span : Range ℕ} → Spanned t n (Ok span) → Told (stretch_of t n) t (Done 0 0)
+  pub answer_yes : {span : Span} → Spanned t n (Ok span) → Told (stretch_of t n) t (Done 0 0)
   unfolding span_by stretch_checked
   answer_yes {span} s = go (sizes_of t) (sym s.is)
     where

@@ -5,7 +5,7 @@ use mathlib.Core.Path.{◌≡◌, refl, sym, ap}
 use mathlib.Core.List.{List}
 use native.Mathlib.Omega.{arith}
 use lib.ListN.{take, drop}
-use Rattle.std.specs.declared.ops.Range.{Range}
+use Rattle.layout.specs.declared.stretch.Span.{Span}
 use Rattle.table.specs.declared.answers.Refusal.{Refusal}
 use Rattle.table.specs.declared.answers.Numbers.{Numbers}
 use Rattle.table.specs.Geometry.{entry_words, entry_at}
@@ -32,7 +32,7 @@ module _ (t : List ℕ) (n : ℕ) where
       let p = answer_refused t n s in
       record { answered = rw (h, p) refl; started = rw p refl; counted = rw p refl; within = omega arith }
 
-  pub part_found : {span : Range ℕ} → Spanned t n (Ok span) → PartReports t n span.start (span.end - span.start) 0
+  pub part_found : {span : Span} → Spanned t n (Ok span) → PartReports t n span.start (span.end - span.start) 0
   unfolding span_by
   part_found {span} s =
       let k = lies (stretch_of t n) (sym s.is) in
